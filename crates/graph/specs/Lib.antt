@@ -1,0 +1,5 @@
+pub mod Each
+pub mod Refusal
+pub mod Graph
+pub mod Check
+pub mod Quad
