@@ -2,4 +2,5 @@ pub mod Each
 pub mod Refusal
 pub mod Graph
 pub mod Check
+pub mod Price
 pub mod Quad

@@ -1,0 +1,4 @@
+pub mod Pair
+pub mod Better
+pub mod Repair
+pub mod Packing
