@@ -1,0 +1,4 @@
+pub mod Laws
+pub mod Steady
+pub mod Right
+pub mod Fuel
