@@ -2,3 +2,5 @@ pub mod Laws
 pub mod Steady
 pub mod Right
 pub mod Fuel
+pub mod Single
+pub mod Stop
