@@ -4,3 +4,5 @@ pub mod Right
 pub mod Fuel
 pub mod Single
 pub mod Stop
+pub mod Prune
+pub mod Size

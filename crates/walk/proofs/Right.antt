@@ -54,7 +54,7 @@ module _
 
     module _ (f : ℕ) (rec : Search p q) (right : Right f rec) where
       -- one way, entered or not
-      try-right :
+      pub try-right :
           (s : p .Node) (w : p .Way) (P : p .Answer → Type 0) (t : Tally (q .Kept)) → l .Fit s → l .count s ≤ f →
           g .Good P (t .kept) →
           g .Good (Either P (With s w)) ((onlyIf (opens p q s w (t .kept)) (rec (p .add s w)) t) .kept)
