@@ -49,7 +49,7 @@ module _
       unfolding node visit branch
       node-agree cut s t fit fuel = at (p .done s)
         where
-          leave : (b : Bool) → branch p q cut b rec s (entered t) ≡ branch p q cut b other s (entered t)
+          leave : (b : Bool) → branch p q b rec s (entered t) ≡ branch p q b other s (entered t)
           leave true = refl
           leave false = tries-agree (p .ways s) s (entered t) fit (omega arith)
 

@@ -51,6 +51,7 @@ pub record Laws (p : Problem) (price : p .Answer → ℕ) (Beats : p .Answer →
 -- A keeper. `Good P x`: x is what is to be kept of the set P.
 pub record Keeping {A : Type 0} (q : Keeper A) (price : A → ℕ) (Beats : A → A → Type 0) : Type 1 where
   pub Good : (A → Type 0) → q .Kept → Type 0
+  pub start : Good (λ a. ⊥) (q .empty)
   pub only : (P : A → Type 0) (x y : q .Kept) → Good P x → Good P y → x ≡ y
   pub same :
       (P Q : A → Type 0) (x : q .Kept) → ((a : A) → P a → Q a) → ((a : A) → Q a → P a) → Good P x → Good Q x

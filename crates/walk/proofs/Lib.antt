@@ -6,3 +6,5 @@ pub mod Single
 pub mod Stop
 pub mod Prune
 pub mod Size
+pub mod Height
+pub mod Promises

@@ -82,7 +82,7 @@ module _
           where
             leave :
                 (b c : Bool) → cut s (q .limit (t .kept)) ≡ b → slow s (q .limit (u .kept)) ≡ c →
-                (branch p q cut b rec s (entered t)) .steps ≤ (branch p q slow c other s (entered u)) .steps
+                (branch p q b rec s (entered t)) .steps ≤ (branch p q c other s (entered u)) .steps
             leave true true e d = omega arith
             leave true false e d =
                 let on = tries-grow p q other grow (p .ways s) s (entered u) in

@@ -110,7 +110,7 @@ module _
           t′ = entered t
 
           leave : (b : Bool) → p .done s ≡ false → cut s (q .limit (t .kept)) ≡ b →
-              g .Good (Either P (l .Below s)) ((branch p q cut b rec s t′) .kept)
+              g .Good (Either P (l .Below s)) ((branch p q b rec s t′) .kept)
           leave true d e = g .above P (l .Below s) (t .kept) (λ a. safe s (q .limit (t .kept)) a fit e) good
           leave false d e = tries-right (p .ways s) s P t′ fit (omega arith) (λ a. l .go s a fit d) good
 

@@ -90,6 +90,7 @@ module _ {A : Type 0} (o : Order A) (r : Ordered o) where
     keeping =
         record {
           Good = IsBest o k;
+          start = λ a none′. absurd none′;
           only = best-only;
           same = best-same;
           above = best-above;

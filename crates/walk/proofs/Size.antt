@@ -82,7 +82,7 @@ module _
       node-small cut zero s t fit high low within = absurd (omega arith)
       node-small cut (suc d) s t fit high low within = at (p .done s)
         where
-          leave : (c : Bool) → (branch p q cut c rec s (entered t)) .steps ≤ t .steps + (1 + b * terms b d)
+          leave : (c : Bool) → (branch p q c rec s (entered t)) .steps ≤ t .steps + (1 + b * terms b d)
           leave true = omega arith
           leave false =
               let most = mul-le-mul-right (terms b d) (steep .few s fit) in

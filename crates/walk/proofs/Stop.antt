@@ -85,13 +85,13 @@ module _ (p : Problem) (q : Keeper (p .Answer)) (cut : p .Node → ℕ → Bool)
       where
         leave :
             (b : Bool) → t .steps < most →
-            runBranch p q cut most b bounded s (entered t) ≡ clip most (branch p q cut b rec s (entered t))
+            runBranch p q b bounded s (entered t) ≡ clip most (branch p q b rec s (entered t))
         leave true less = sym (clip-within most (entered t) less)
         leave false less = tries-clips (p .ways s) s (entered t) less
 
         at :
             (b : Bool) → t .steps < most →
-            runVisit p q cut most b bounded s (entered t) ≡ clip most (visit p q cut b rec s (entered t))
+            runVisit p q cut b bounded s (entered t) ≡ clip most (visit p q cut b rec s (entered t))
         at true less = sym (clip-within most (found p q s (entered t)) less)
         at false less = leave (cut s (q .limit (t .kept))) less
 

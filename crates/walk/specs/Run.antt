@@ -29,23 +29,24 @@ module _ (p : Problem) (q : Keeper (p .Answer)) where
   runTries rec s (w ∷ ws) t =
       next (runTries rec (p .mark s w) ws) (runIf (opens p q s w (t .kept)) (rec (p .add s w)) t)
 
-  module _ (cut : p .Node → ℕ → Bool) (most : ℕ) where
-    unfoldable pub runBranch : Bool → Bounded → Bounded
-    runBranch true rec s t = whole t
-    runBranch false rec s t = runTries rec s (p .ways s) t
+  unfoldable pub runBranch : Bool → Bounded → Bounded
+  runBranch true rec s t = whole t
+  runBranch false rec s t = runTries rec s (p .ways s) t
 
+  module _ (cut : p .Node → ℕ → Bool) where
     unfoldable pub runVisit : Bool → Bounded → Bounded
     runVisit true rec s t = whole (found p q s t)
     runVisit false rec s t = runBranch (cut s (q .limit (t .kept))) rec s t
 
-    -- "the tree has more than L nodes; steps = L": this node would be one more
-    unfoldable pub runEnter : Bool → Bounded → Bounded
-    runEnter true rec s t = stopped (t .steps)
-    runEnter false rec s t = runVisit (p .done s) rec s (entered t)
+    module _ (most : ℕ) where
+      -- "the tree has more than L nodes; steps = L": this node would be one more
+      unfoldable pub runEnter : Bool → Bounded → Bounded
+      runEnter true rec s t = stopped (t .steps)
+      runEnter false rec s t = runVisit (p .done s) rec s (entered t)
 
-    unfoldable pub runNode : Bounded → Bounded
-    runNode rec s t = runEnter (leb most (t .steps)) rec s t
+      unfoldable pub runNode : Bounded → Bounded
+      runNode rec s t = runEnter (leb most (t .steps)) rec s t
 
-    unfoldable pub run : ℕ → Bounded
-    run zero s t = whole t
-    run (suc f) s t = runNode (run f) s t
+      unfoldable pub run : ℕ → Bounded
+      run zero s t = whole t
+      run (suc f) s t = runNode (run f) s t
