@@ -8,3 +8,5 @@ pub mod Prune
 pub mod Size
 pub mod Height
 pub mod Promises
+pub mod Toy
+pub mod ToyLaws
