@@ -10,10 +10,10 @@ use Rattle.walk.proofs.Laws.{Laws}
 use Rattle.walk.proofs.Steady.{opens-free}
 
 module _
-    (p : Problem)
+    {p : Problem}
+    {price : p .Answer → ℕ}
+    {Beats : p .Answer → p .Answer → Type 0}
     (q : Keeper (p .Answer))
-    (price : p .Answer → ℕ)
-    (Beats : p .Answer → p .Answer → Type 0)
     (l : Laws p price Beats)
   where
     -- two searches agree at the nodes with fewer than m free ways

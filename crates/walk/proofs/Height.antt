@@ -1,7 +1,7 @@
 -- Two heights: where every free way costs at least m, what is left of the budget divided by m; where no way is ever
 -- free, nothing. Assumes nothing.
-use Prim.Native.Nat.{ℕ, zero, suc, _+_, _*_, _-_, _/_, _≤_, _<_}
-use mathlib.Core.Path.{_≡_, refl, sym, ap}
+use Prim.Native.Nat.{ℕ, _+_, _*_, _-_, _/_, _≤_, _<_}
+use mathlib.Core.Path.{_≡_}
 use mathlib.Core.Bool.{true, false}
 use native.Mathlib.Nat.{suc-mul, le-div-iff-mul-le}
 use native.Mathlib.Omega.{arith}
@@ -26,9 +26,9 @@ div-mono x y m pos h =
     le-div-iff-mul-le pos .1 (omega arith)
 
 module _
-    (p : Problem)
-    (price : p .Answer → ℕ)
-    (Beats : p .Answer → p .Answer → Type 0)
+    {p : Problem}
+    {price : p .Answer → ℕ}
+    {Beats : p .Answer → p .Answer → Type 0}
     (l : Laws p price Beats)
     (k b : ℕ)
     (few : (s : p .Node) → l .Fit s → length (p .ways s) ≤ b)

@@ -78,9 +78,9 @@ NotBetter o a b = o .better b a ≡ false
 
 -- "if price plus packing bound exceeds the limit": no answer below the node is within it
 abbrev pub Safe :
-    (p : Problem) (price : p .Answer → ℕ) (Beats : p .Answer → p .Answer → Type 0) → Laws p price Beats →
+    {p : Problem} {price : p .Answer → ℕ} {Beats : p .Answer → p .Answer → Type 0} → Laws p price Beats →
     (p .Node → ℕ → Bool) → Type 0
-Safe p price Beats l cut =
+Safe {p} {price} l cut =
     (s : p .Node) (limit : ℕ) (a : p .Answer) → l .Fit s → cut s limit ≡ true → l .Below s a → limit < price a
 
 -- A height of nodes: every way that can be entered within k leads lower.

@@ -63,10 +63,10 @@ module _ (p : Problem) (q : Keeper (p .Answer)) where
       omega arith
 
 module _
-    (p : Problem)
-    (q : Keeper (p .Answer))
-    (price : p .Answer → ℕ)
-    (Beats : p .Answer → p .Answer → Type 0)
+    {p : Problem}
+    {q : Keeper (p .Answer)}
+    {price : p .Answer → ℕ}
+    {Beats : p .Answer → p .Answer → Type 0}
     (l : Laws p price Beats)
     (g : Keeping q price Beats)
   where

@@ -11,21 +11,8 @@ use Rattle.bits.specs.Choice.{pick}
 use Rattle.bits.proofs.Truth.{pick-true, pick-false}
 use Rattle.walk.specs.Problem.{Problem, Keeper, Tally}
 use Rattle.walk.specs.Walk.{Search, entered, onlyIf, found, opens, tries, branch, visit, node, walk}
-use Rattle.walk.specs.Run.{
-  Outcome,
-  stopped,
-  whole,
-  Bounded,
-  next,
-  runIf,
-  runTries,
-  runBranch,
-  runVisit,
-  runEnter,
-  runNode,
-  run,
-}
-use Rattle.walk.proofs.Steady.{Growing, try-grow, tries-grow, node-grow, walk-grow}
+use Rattle.walk.specs.Run.{Outcome, stopped, whole, Bounded, next, runIf, runTries, runBranch, runVisit, runEnter, runNode, run}
+use Rattle.walk.proofs.Steady.{Growing, tries-grow, node-grow, walk-grow}
 
 -- a tally above the limit is a stop
 unfoldable pub clip : {Kept : Type 0} → ℕ → Tally Kept → Outcome Kept

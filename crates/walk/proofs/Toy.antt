@@ -2,25 +2,13 @@
 -- the third. proofs/ToyLaws shows that it obeys the laws; here its figures are computed. Assumes nothing.
 use Prim.Native.Nat.{ℕ, _+_, _*_}
 use mathlib.Core.Path.{_≡_, refl}
-use mathlib.Core.Bool.{Bool, true, false, not, _&&_, _||_}
+use mathlib.Core.Bool.{Bool, true, false, _&&_, _||_}
 use mathlib.Core.List.{List, [], _∷_}
 use mathlib.Core.Option.{none, some}
 use lib.Dec.{ltb}
 use Rattle.bits.specs.Choice.{pick}
 use Rattle.walk.specs.Problem.{Problem}
-use Rattle.walk.specs.Walk.{
-  entered,
-  onlyIf,
-  found,
-  opens,
-  tries,
-  branch,
-  visit,
-  node,
-  walk,
-  plain,
-  begin,
-}
+use Rattle.walk.specs.Walk.{entered, onlyIf, found, opens, tries, branch, visit, node, walk, plain, begin}
 use Rattle.walk.specs.Run.{stopped, whole, next, runIf, runTries, runBranch, runVisit, runEnter, runNode, run}
 use Rattle.walk.specs.Best.{Order, bestOf, keepBetter, limitOf}
 

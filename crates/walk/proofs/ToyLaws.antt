@@ -4,7 +4,6 @@ use Prim.Native.Nat.{ℕ, _+_, _*_, _/_, _≤_, _<_}
 use mathlib.Core.Path.{_≡_, refl, sym, ap, _∙_}
 use mathlib.Core.Logic.{_⊎_, inl, inr}
 use mathlib.Core.Bool.{Bool, true, false, not, _&&_, _||_}
-use mathlib.Core.List.{List, [], _∷_}
 use mathlib.Core.Option.{some}
 use native.Mathlib.Omega.{arith}
 use lib.Dec.{leb, ltb, eqb}
@@ -16,33 +15,7 @@ use Rattle.walk.specs.Walk.{entered, onlyIf, found, opens, tries, branch
 use Rattle.walk.specs.Best.{IsBest, keepBetter, limitOf}
 use Rattle.walk.proofs.Promises.{kept-best}
 use Rattle.walk.proofs.Laws.{Laws, Ordered, NotBetter, Safe, marked}
-use Rattle.walk.proofs.Toy.{
-  Thing,
-  first,
-  second,
-  third,
-  Mark,
-  ajar,
-  taken,
-  shut,
-  Three,
-  at,
-  put,
-  isTaken,
-  isOpen,
-  close,
-  setOf,
-  size,
-  enough,
-  missing,
-  toy,
-  rank,
-  order,
-  bound,
-  pruned,
-  root,
-  answer,
-}
+use Rattle.walk.proofs.Toy.{Thing, first, second, third, Mark, ajar, taken, shut, Three, at, put, isTaken, isOpen, close, setOf, size, enough, missing, toy, rank, order, bound, pruned, root, answer}
 
 -- where the first test passes, so does the second
 abbrev pub _⇒_ : Bool → Bool → Bool
@@ -200,7 +173,7 @@ ordered =
           sym (unrank-rank (a .x) (a .y) (a .z)) ∙ ap unrank same ∙ unrank-rank (b .x) (b .y) (b .z);
     }
 
-pub pruned-safe : Safe toy size (NotBetter order) laws pruned
+pub pruned-safe : Safe laws pruned
 unfolding laws everyNode everyAnswer everyThree everyMark everyBool
 pruned-safe s limit a fit e b =
     let over = ltb-true limit (size (setOf s) + bound s) e in
@@ -211,9 +184,9 @@ pruned-safe s limit a fit e b =
 -- the promise, at work: the answer that the table shows is the best within 2, since any walk keeps the best
 pub toy-best : IsBest order 2 (λ a. below root a ≡ true) (some answer)
 unfolding laws walk node visit branch tries opens found onlyIf entered keepBetter limitOf
-toy-best = kept-best toy order ordered laws 2 root tt (omega arith) pruned pruned-safe 4 (omega arith)
+toy-best = kept-best ordered laws 2 root tt (omega arith) pruned pruned-safe 4 (omega arith)
 
 -- and that none is within 1
 pub toy-none : (a : Three Bool) → below root a ≡ true → 1 < size a
 unfolding laws walk node visit branch tries opens found onlyIf entered keepBetter limitOf
-toy-none = kept-best toy order ordered laws 1 root tt (omega arith) pruned pruned-safe 4 (omega arith)
+toy-none = kept-best ordered laws 1 root tt (omega arith) pruned pruned-safe 4 (omega arith)

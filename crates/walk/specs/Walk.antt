@@ -1,5 +1,5 @@
--- The search tree, walked to its end. Only `walk` calls itself, by fuel; a tree that ends needs no more fuel than it
--- has free ways (proofs/Promises). Assumes nothing.
+-- The search tree, walked to its end. Only `walk` calls itself, by fuel: any fuel above the number of free ways gives
+-- the same walk (`fuel-enough` in proofs/Promises). Assumes nothing.
 use Prim.Native.Nat.{ℕ, zero, suc, _+_, _^_}
 use mathlib.Core.Bool.{Bool, true, false, _&&_}
 use mathlib.Core.List.{List, [], _∷_}
@@ -39,11 +39,12 @@ module _ (p : Problem) (q : Keeper (p .Answer)) where
   branch false rec s t = tries rec s (p .ways s) t
 
   module _ (cut : p .Node → ℕ → Bool) where
+    -- "no quad: it is a repair"; "a quad: take the first"
     unfoldable pub visit : Bool → Search → Search
     visit true rec s t = found s t
     visit false rec s t = branch (cut s (q .limit (t .kept))) rec s t
 
-    -- "At a node": no quad, or a quad
+    -- "Entering a node is one step. At a node:"
     unfoldable pub node : Search → Search
     node rec s t = visit (p .done s) rec s (entered t)
 
