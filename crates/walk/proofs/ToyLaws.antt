@@ -121,11 +121,15 @@ laws =
       fit-mark = λ s w fit. tt;
       stop = λ s fit done. then (of-node (λ s. enough (setOf s) ⇒ below s (setOf s)) refl s) done;
       beats = λ s a fit done b.
-          not-true _ (then (of-both (λ s a. (enough (setOf s) && below s a) ⇒ not (ltb (rank a) (rank (setOf s)))) refl s a) (and-in done b));
-      go = λ s a fit open′ b.
-          never b (not-true _ (then (of-both (λ s a. not (enough (setOf s)) ⇒ not (below (marked toy s (missing (isTaken (s .x) || isTaken (s .y)))) a)) refl s a) (not-in open′)));
+          let kept : Three Mark → Three Bool → Bool = λ s a. enough (setOf s) && below s a in
+          let table = of-both (λ s a. kept s a ⇒ not (ltb (rank a) (rank (setOf s)))) refl s a in
+          not-true _ (then table (and-in done b));
+      go = λ s a fit unmet b.
+          let table = of-both (λ s a. not (enough (setOf s)) ⇒ not (below (marked toy s (toy .ways s)) a)) refl s a in
+          never b (not-true _ (then table (not-in unmet)));
       split = λ s w a fit b.
-          split (then (of-all (λ s w a. below s a ⇒ ((isOpen (at s w) && below (put s w taken) a) || below (put s w (close (at s w))) a)) refl s w a) b);
+          let with : Three Mark → Thing → Three Bool → Bool = λ s w a. isOpen (at s w) && below (put s w taken) a in
+          split (then (of-all (λ s w a. below s a ⇒ (with s w a || below (toy .mark s w) a)) refl s w a) b);
       up-add = λ s w a fit free b.
           then (of-all (λ s w a. (isOpen (at s w) && below (put s w taken) a) ⇒ below s a) refl s w a) (and-in free b);
       up-mark = λ s w a fit b. then (of-all (λ s w a. below (put s w (close (at s w))) a ⇒ below s a) refl s w a) b;
