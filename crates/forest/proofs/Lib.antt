@@ -3,3 +3,6 @@ pub mod Orders
 pub mod Parents
 pub mod Shape
 pub mod Nested
+pub mod Ancestors
+pub mod Fitting
+pub mod Fitted
