@@ -6,3 +6,5 @@ pub mod Nested
 pub mod Ancestors
 pub mod Fitting
 pub mod Fitted
+pub mod Groups
+pub mod Listed
