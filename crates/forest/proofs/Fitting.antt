@@ -1,12 +1,12 @@
 -- In a clean graph the parents of the order fit: the ancestors of a vertex are exactly its neighbours that come before it,
 -- since these form a chain and the parent is the last of them. In any graph the parents make trees. Assumes nothing.
-use mathlib.Core.Path.{_≡_, refl, sym, _∙_, ap, subst}
-use mathlib.Core.Logic.{_⊎_, inl, inr, ⊎-elim, _≢_}
-use mathlib.Core.Bool.{Bool, true, false}
+use mathlib.Core.Path.{_≡_, refl, sym, _∙_, ap}
+use mathlib.Core.Logic.{inl, inr, ⊎-elim, _≢_}
+use mathlib.Core.Bool.{Bool, true}
 use Prim.Native.Nat.{ℕ, zero, suc, _<_, _≤_}
 use native.Mathlib.Omega.{arith}
 use Rattle.bits.specs.Choice.{count}
-use Rattle.bits.proofs.Truth.{never, fails}
+use Rattle.bits.proofs.Truth.{never}
 use Rattle.bits.proofs.Counting.{count-less}
 use Rattle.graph.specs.Graph.{IsGraph}
 use Rattle.graph.specs.Quad.{Clean}
@@ -15,7 +15,7 @@ use Rattle.forest.specs.Forest.{Ancestor, near, far, Fits, Acyclic}
 use Rattle.forest.proofs.Finite.{equal-or-not}
 use Rattle.forest.proofs.Orders.{before-degree, before-asymmetric, before-irreflexive, before-transitive, before-total}
 use Rattle.forest.proofs.Parents.{IsParent, orphan, child, parent-is}
-use Rattle.forest.proofs.Shape.{edge-apart, edge-mirror}
+use Rattle.forest.proofs.Shape.{edge-mirror}
 use Rattle.forest.proofs.Nested.{nested}
 
 -- u is a neighbour of v that comes before it

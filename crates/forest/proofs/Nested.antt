@@ -9,7 +9,7 @@ use native.Mathlib.Omega.{arith}
 use lib.Dec.{eqb}
 use borrow.Author.Tests.{eqb-true, eqb-false, ne-eqb, not-true, not-false}
 use Rattle.bits.specs.Choice.{count}
-use Rattle.bits.proofs.Truth.{never, fails, passes, and-in, and-left, and-right, and-off-left, and-out, not-in, not-off, pick-true, pick-false}
+use Rattle.bits.proofs.Truth.{never, fails, passes, and-in, and-left, and-right, and-off-left, and-out, not-in, pick-true, pick-false}
 use Rattle.bits.proofs.Counting.{one, count-suc, count-none, count-less, count-split}
 use Rattle.graph.specs.Graph.{IsGraph}
 use Rattle.graph.specs.Quad.{Clean}

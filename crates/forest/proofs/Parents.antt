@@ -1,6 +1,6 @@
 -- What `last` finds under a total order, and so who the parent of a vertex is: the last of its neighbours that come before
 -- it, and nobody else. By induction on the numbers looked at. Assumes nothing.
-use mathlib.Core.Path.{_≡_, refl, sym, _∙_, ap, subst}
+use mathlib.Core.Path.{_≡_, refl, sym, _∙_, subst}
 use mathlib.Core.Logic.{_⊎_, inl, inr, _≢_}
 use mathlib.Core.Bool.{Bool, true, false, _&&_, _||_}
 use Prim.Native.Nat.{ℕ, zero, suc, _<_, _≤_}
@@ -121,3 +121,8 @@ module _ (n : ℕ) (e : ℕ → ℕ → Bool) where
   -- whoever is the parent of v is the one that the order gives
   pub parent-unique : IsGraph n e → n ≤ nobody → {v p : ℕ} → IsParent n e v p → p ≡ parent n e v
   parent-unique graph fits {v} h = same-parent h (parent-is graph fits v)
+
+  -- what is no vertex has no parent
+  pub parent-outside : IsGraph n e → n ≤ nobody → (v : ℕ) → n ≤ v → parent n e v ≡ nobody
+  parent-outside graph fits v out =
+      sym (parent-unique graph fits (orphan refl (λ u near. let low : v < n = graph .inside v u near .0 in absurd (omega arith))))
