@@ -50,8 +50,7 @@ module _ {n : ℕ} {e : ℕ → ℕ → Bool} (graph : IsGraph n e) (room : n �
   module _ (clean : Clean n e) where
     -- who stands above one that stands above v stands above v
     pub above-transitive : {u v w : ℕ} → Above n e u v → Above n e w u → Above n e w v
-    above-transitive {u} {v} {w} a b =
-        record { joined = edge-mirror graph (nested graph clean (edge-mirror graph (b .joined)) (before-degree n e w u (b .earlier)) v (edge-mirror graph (a .joined)) apart); earlier = early }
+    above-transitive {u} {v} {w} a b = record { joined = edge-mirror graph beside; earlier = early }
       where
         early : before n e w v ≡ true
         early = before-transitive n e w u v (b .earlier) (a .earlier)
@@ -59,13 +58,21 @@ module _ {n : ℕ} {e : ℕ → ℕ → Bool} (graph : IsGraph n e) (room : n �
         apart : v ≢ w
         apart same = never (ap (before n e w) (sym same) ∙ early) (before-irreflexive n e w)
 
+        beside : e w v ≡ true
+        beside =
+            nested graph clean (edge-mirror graph (b .joined)) (before-degree n e w u (b .earlier)) v
+            (edge-mirror graph (a .joined)) apart
+
     -- those above v form a chain
     pub above-chain : {u v w : ℕ} → Above n e u v → Above n e w v → before n e w u ≡ true → Above n e w u
-    above-chain {u} {v} {w} a b early =
-        record { joined = nested graph clean (edge-mirror graph (a .joined)) (before-degree n e u v (a .earlier)) w (b .joined) apart; earlier = early }
+    above-chain {u} {v} {w} a b early = record { joined = beside; earlier = early }
       where
         apart : w ≢ u
         apart same = never (ap (before n e w) same ∙ early) (before-irreflexive n e w)
+
+        beside : e u w ≡ true
+        beside =
+            nested graph clean (edge-mirror graph (a .joined)) (before-degree n e u v (a .earlier)) w (b .joined) apart
 
     -- the ancestors of v are those above it: each is
     pub ancestor-above : {u v : ℕ} → u < n → Ancestor (parent n e) u v → Above n e u v

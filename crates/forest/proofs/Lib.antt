@@ -2,6 +2,7 @@ pub mod Finite
 pub mod Orders
 pub mod Parents
 pub mod Shape
+pub mod Counted
 pub mod Nested
 pub mod Ancestors
 pub mod Fitting

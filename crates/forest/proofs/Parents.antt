@@ -113,7 +113,8 @@ module _ (n : ℕ) (e : ℕ → ℕ → Bool) where
       go (last-is (before n e) (λ u. e v u && before n e u v) (before-transitive n e) (before-total n e) n fits)
     where
       go : {p : ℕ} → IsLast (before n e) (λ u. e v u && before n e u v) n p → IsParent n e v p
-      go (none is nowhere) = orphan is (λ u near. fails (λ early. never (and-in near early) (nowhere u (graph .inside v u near .1))))
+      go (none is nowhere) =
+          orphan is (λ u near. fails (λ early. never (and-in near early) (nowhere u (graph .inside v u near .1))))
       go {p} (found low on others) =
           child low (and-left (e v p) (before n e p v) on) (and-right (e v p) (before n e p v) on)
           (λ u near early apart. others u (graph .inside v u near .1) (and-in near early) apart)
@@ -124,5 +125,7 @@ module _ (n : ℕ) (e : ℕ → ℕ → Bool) where
 
   -- what is no vertex has no parent
   pub parent-outside : IsGraph n e → n ≤ nobody → (v : ℕ) → n ≤ v → parent n e v ≡ nobody
-  parent-outside graph fits v out =
-      sym (parent-unique graph fits (orphan refl (λ u near. let low : v < n = graph .inside v u near .0 in absurd (omega arith))))
+  parent-outside graph fits v out = sym (parent-unique graph fits (orphan refl (λ u near. absurd (inner u near))))
+    where
+      inner : (u : ℕ) → e v u ≡ true → ⊥
+      inner u near = omega (arith, graph .inside v u near .0)
