@@ -1,0 +1,11 @@
+pub mod Finite
+pub mod Orders
+pub mod Parents
+pub mod Shape
+pub mod Counted
+pub mod Nested
+pub mod Ancestors
+pub mod Fitting
+pub mod Fitted
+pub mod Groups
+pub mod Listed
