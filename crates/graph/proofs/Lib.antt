@@ -1,1 +1,4 @@
 pub mod CheckLaws
+pub mod RowLaws
+pub mod Within
+pub mod WordLaws
