@@ -1,1 +1,3 @@
 pub mod Orders
+pub mod Compared
+pub mod Determined

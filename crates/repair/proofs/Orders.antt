@@ -38,6 +38,15 @@ unfolding smaller
 leading x xs y ys (inl l) = or-left _ (lt-ltb x y l)
 leading x xs y ys (inr h) = or-right (ltb x y) (and-in (eq-eqb x y (h .0)) (h .1))
 
+-- the same first number decides nothing
+pub smaller-level :
+    (x : ℕ) (xs : List ℕ) (y : ℕ) (ys : List ℕ) → x ≡ y → smaller (x ∷ xs) (y ∷ ys) ≡ smaller xs ys
+smaller-level x xs y ys e = same (λ h. go (leads x xs y ys h)) (λ h. leading x xs y ys (inr (e, h)))
+  where
+    go : Leads x xs y ys → smaller xs ys ≡ true
+    go (inl l) = absurd (omega arith)
+    go (inr h) = h .1
+
 -- no list is smaller than itself
 pub smaller-irreflexive : (xs : List ℕ) → smaller xs xs ≡ false
 smaller-irreflexive [] = unfold smaller in refl
@@ -141,10 +150,4 @@ module _ (toll : ℕ → ℕ) where
   -- "among equals, the one whose .. list .. is smaller"
   pub better-of-equals : (a b : List ℕ) → price toll a ≡ price toll b → better toll a b ≡ smaller a b
   unfolding better
-  better-of-equals a b e =
-      same (λ h. go (leads (price toll a) a (price toll b) b h))
-      (λ h. leading (price toll a) a (price toll b) b (inr (e, h)))
-    where
-      go : Leads (price toll a) a (price toll b) b → smaller a b ≡ true
-      go (inl l) = absurd (omega arith)
-      go (inr h) = h .1
+  better-of-equals a b e = smaller-level (price toll a) a (price toll b) b e
