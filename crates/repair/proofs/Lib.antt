@@ -1,3 +1,6 @@
 pub mod Orders
 pub mod Compared
 pub mod Determined
+pub mod Sets
+pub mod Prices
+pub mod Packs
