@@ -4,3 +4,6 @@ pub mod Determined
 pub mod Sets
 pub mod Prices
 pub mod Packs
+pub mod Numbers
+pub mod Inserts
+pub mod Toggling
