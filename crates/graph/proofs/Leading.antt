@@ -3,10 +3,17 @@
 -- something. Assumes nothing.
 use mathlib.Core.Path.{_≡_, refl, sym, _∙_, ap}
 use mathlib.Core.Logic.{_⊎_, inl, inr, _≢_}
-use mathlib.Core.List.{List, [], _++_}
+use mathlib.Core.List.{List, [], _∷_, _++_}
 use Prim.Native.Nat.{ℕ, zero, suc, _<_}
 use native.Mathlib.Omega.{arith}
+use Rattle.graph.specs.declared.Quad.{Quad}
+use Rattle.graph.specs.declared.First.{First}
+use Rattle.graph.specs.declared.First.the-variants.{At, Clear}
+use Rattle.graph.specs.declared.Finding.{Finding}
+use Rattle.graph.specs.declared.Finding.the-variants.{Fine, Fault}
 use Rattle.graph.specs.Each.{each}
+use Rattle.graph.specs.Refusal.{firstOf}
+use Rattle.graph.specs.Quad.{first}
 use Rattle.graph.proofs.Listing.{below-suc}
 
 pub record Leading {A M : Type 0} (nothing : M) (h : List A → M) : Type 0 where
@@ -77,3 +84,44 @@ module _ {A M : Type 0} {nothing : M} {h : List A → M} (lead : Leading nothing
           let L = below (sym (lead .stays (each n f) (f n) q) ∙ p) in
           let l = L .within in
           record { place = L .place; within = omega arith; says = L .says; earlier = L .earlier }
+
+pub at-not-clear : {q : Quad} → At q ≢ Clear
+at-not-clear {q} p = let z : _≡_ {A = ℕ} 0 1 = cc in omega arith
+
+-- the first quad of a listing
+pub first-leading : Leading Clear first
+first-leading = record { empty = refl; skips = skips; stays = stays; decides = decides }
+  where
+    skips : (xs ys : List Quad) → first xs ≡ Clear → first (xs ++ ys) ≡ first ys
+    skips [] ys p = refl
+    skips (x ∷ xs) ys p = absurd (at-not-clear p)
+
+    stays : (xs ys : List Quad) → first xs ≢ Clear → first (xs ++ ys) ≡ first xs
+    stays [] ys p = absurd (p refl)
+    stays (x ∷ xs) ys p = refl
+
+    decides : (m : First) → (m ≡ Clear) ⊎ (m ≢ Clear)
+    decides (At q) = inr at-not-clear
+    decides Clear = inl refl
+
+pub fault-not-fine : {k i j : ℕ} → Fault k i j ≢ Fine
+fault-not-fine {k} {i} {j} p = let z : _≡_ {A = ℕ} 0 1 = cc in omega arith
+
+-- the first check that finds something
+pub firstOf-leading : Leading Fine firstOf
+unfolding firstOf
+firstOf-leading = record { empty = refl; skips = skips; stays = stays; decides = decides }
+  where
+    skips : (xs ys : List Finding) → firstOf xs ≡ Fine → firstOf (xs ++ ys) ≡ firstOf ys
+    skips [] ys p = refl
+    skips (Fine ∷ xs) ys p = skips xs ys p
+    skips (Fault k i j ∷ xs) ys p = absurd (fault-not-fine p)
+
+    stays : (xs ys : List Finding) → firstOf xs ≢ Fine → firstOf (xs ++ ys) ≡ firstOf xs
+    stays [] ys p = absurd (p refl)
+    stays (Fine ∷ xs) ys p = stays xs ys p
+    stays (Fault k i j ∷ xs) ys p = refl
+
+    decides : (m : Finding) → (m ≡ Fine) ⊎ (m ≢ Fine)
+    decides (Fault k i j) = inr fault-not-fine
+    decides Fine = inl refl

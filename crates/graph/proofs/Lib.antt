@@ -8,3 +8,8 @@ pub mod Arrange
 pub mod Once
 pub mod Names
 pub mod Quads
+pub mod Refusals
+pub mod Grid
+pub mod Reading
+pub mod Flipping
+pub mod Chord
