@@ -10,10 +10,10 @@ use Rattle.walk.proofs.Laws.{Laws}
 use Rattle.walk.proofs.Steady.{opens-free}
 
 module _
-    (p : Problem)
+    {p : Problem}
+    {price : p .Answer → ℕ}
+    {Beats : p .Answer → p .Answer → Type 0}
     (q : Keeper (p .Answer))
-    (price : p .Answer → ℕ)
-    (Beats : p .Answer → p .Answer → Type 0)
     (l : Laws p price Beats)
   where
     -- two searches agree at the nodes with fewer than m free ways
@@ -49,7 +49,7 @@ module _
       unfolding node visit branch
       node-agree cut s t fit fuel = at (p .done s)
         where
-          leave : (b : Bool) → branch p q cut b rec s (entered t) ≡ branch p q cut b other s (entered t)
+          leave : (b : Bool) → branch p q b rec s (entered t) ≡ branch p q b other s (entered t)
           leave true = refl
           leave false = tries-agree (p .ways s) s (entered t) fit (omega arith)
 

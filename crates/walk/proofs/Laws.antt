@@ -51,6 +51,7 @@ pub record Laws (p : Problem) (price : p .Answer → ℕ) (Beats : p .Answer →
 -- A keeper. `Good P x`: x is what is to be kept of the set P.
 pub record Keeping {A : Type 0} (q : Keeper A) (price : A → ℕ) (Beats : A → A → Type 0) : Type 1 where
   pub Good : (A → Type 0) → q .Kept → Type 0
+  pub start : Good (λ a. ⊥) (q .empty)
   pub only : (P : A → Type 0) (x y : q .Kept) → Good P x → Good P y → x ≡ y
   pub same :
       (P Q : A → Type 0) (x : q .Kept) → ((a : A) → P a → Q a) → ((a : A) → Q a → P a) → Good P x → Good Q x
@@ -77,9 +78,9 @@ NotBetter o a b = o .better b a ≡ false
 
 -- "if price plus packing bound exceeds the limit": no answer below the node is within it
 abbrev pub Safe :
-    (p : Problem) (price : p .Answer → ℕ) (Beats : p .Answer → p .Answer → Type 0) → Laws p price Beats →
+    {p : Problem} {price : p .Answer → ℕ} {Beats : p .Answer → p .Answer → Type 0} → Laws p price Beats →
     (p .Node → ℕ → Bool) → Type 0
-Safe p price Beats l cut =
+Safe {p} {price} l cut =
     (s : p .Node) (limit : ℕ) (a : p .Answer) → l .Fit s → cut s limit ≡ true → l .Below s a → limit < price a
 
 -- A height of nodes: every way that can be entered within k leads lower.

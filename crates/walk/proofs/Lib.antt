@@ -6,3 +6,7 @@ pub mod Single
 pub mod Stop
 pub mod Prune
 pub mod Size
+pub mod Height
+pub mod Promises
+pub mod Toy
+pub mod ToyLaws

@@ -13,10 +13,10 @@ use Rattle.walk.proofs.Steady.{Growing, opens-free, opens-within, tries
 use Rattle.walk.proofs.Right.{Right, With, try-right, walk-right}
 
 module _
-    (p : Problem)
-    (q : Keeper (p .Answer))
-    (price : p .Answer → ℕ)
-    (Beats : p .Answer → p .Answer → Type 0)
+    {p : Problem}
+    {q : Keeper (p .Answer)}
+    {price : p .Answer → ℕ}
+    {Beats : p .Answer → p .Answer → Type 0}
     (l : Laws p price Beats)
     (g : Keeping q price Beats)
   where
@@ -30,8 +30,8 @@ module _
     module _
         (f : ℕ)
         (rec other : Search p q)
-        (right : Right p q price Beats l g f rec)
-        (right′ : Right p q price Beats l g f other)
+        (right : Right l g f rec)
+        (right′ : Right l g f other)
         (lean : Leaner f rec other)
       where
         try-lean :
@@ -64,14 +64,14 @@ module _
         tries-lean [] s P t u fit fuel good same less = less
         tries-lean (w ∷ ws) s P t u fit fuel good same less =
             let fewer = l .count-mark s w fit in
-            let tried = try-right p q price Beats l g f rec right s w P t fit fuel good in
+            let tried = try-right l g f rec right s w P t fit fuel good in
             let good′ = subst (g .Good P) same good in
-            let tried′ = try-right p q price Beats l g f other right′ s w P u fit fuel good′ in
-            tries-lean ws (p .mark s w) (Either P (With p q price Beats l g s w))
+            let tried′ = try-right l g f other right′ s w P u fit fuel good′ in
+            tries-lean ws (p .mark s w) (Either P (With l g s w))
             (onlyIf (opens p q s w (t .kept)) (rec (p .add s w)) t)
             (onlyIf (opens p q s w (u .kept)) (other (p .add s w)) u)
             (l .fit-mark s w fit) (omega arith) tried
-            (g .only (Either P (With p q price Beats l g s w)) _ _ tried tried′)
+            (g .only (Either P (With l g s w)) _ _ tried tried′)
             (try-lean s w P t u fit fuel good same less)
 
         node-lean :
@@ -82,7 +82,7 @@ module _
           where
             leave :
                 (b c : Bool) → cut s (q .limit (t .kept)) ≡ b → slow s (q .limit (u .kept)) ≡ c →
-                (branch p q cut b rec s (entered t)) .steps ≤ (branch p q slow c other s (entered u)) .steps
+                (branch p q b rec s (entered t)) .steps ≤ (branch p q c other s (entered u)) .steps
             leave true true e d = omega arith
             leave true false e d =
                 let on = tries-grow p q other grow (p .ways s) s (entered u) in
@@ -98,14 +98,14 @@ module _
             at false = leave (cut s (q .limit (t .kept))) (slow s (q .limit (u .kept))) refl refl
 
     pub walk-lean :
-        (cut slow : p .Node → ℕ → Bool) → Safe p price Beats l cut → Safe p price Beats l slow →
+        (cut slow : p .Node → ℕ → Bool) → Safe l cut → Safe l slow →
         ((s : p .Node) (limit : ℕ) → slow s limit ≡ true → cut s limit ≡ true) →
         (f : ℕ) → Leaner f (walk p q cut f) (walk p q slow f)
     unfolding walk
     walk-lean cut slow safe safe′ more zero s P t u fit fuel within good same less = less
     walk-lean cut slow safe safe′ more (suc f) s P t u fit fuel within good same less =
         node-lean f (walk p q cut f) (walk p q slow f)
-        (walk-right p q price Beats l g cut safe f)
-        (walk-right p q price Beats l g slow safe′ f)
+        (walk-right l g cut safe f)
+        (walk-right l g slow safe′ f)
         (walk-lean cut slow safe safe′ more f)
         cut slow more (walk-grow p q slow f) s P t u fit fuel within good same less

@@ -4,7 +4,7 @@
 use Prim.Native.Nat.{ℕ, zero, suc, _+_, _≤_, _<_}
 use mathlib.Core.Path.{_≡_, refl}
 use mathlib.Core.Logic.{_⊎_, inl, inr}
-use mathlib.Core.Bool.{Bool, true, false, _&&_}
+use mathlib.Core.Bool.{Bool, true, false}
 use mathlib.Core.List.{List, [], _∷_}
 use native.Mathlib.Omega.{arith}
 use lib.Dec.{leb}
@@ -21,10 +21,10 @@ either-map f (inl a) = inl a
 either-map f (inr b) = inr (f b)
 
 module _
-    (p : Problem)
-    (q : Keeper (p .Answer))
-    (price : p .Answer → ℕ)
-    (Beats : p .Answer → p .Answer → Type 0)
+    {p : Problem}
+    {q : Keeper (p .Answer)}
+    {price : p .Answer → ℕ}
+    {Beats : p .Answer → p .Answer → Type 0}
     (l : Laws p price Beats)
     (g : Keeping q price Beats)
   where
@@ -102,7 +102,7 @@ module _
           down a (inl h) = inl (inl h)
           down a (inr h) = part a (l .split s w a fit h)
 
-      node-right : (cut : p .Node → ℕ → Bool) → Safe p price Beats l cut → Right (suc f) (node p q cut rec)
+      node-right : (cut : p .Node → ℕ → Bool) → Safe l cut → Right (suc f) (node p q cut rec)
       unfolding node entered visit branch found
       node-right cut safe s P t fit fuel within good = at (p .done s) refl
         where
@@ -110,7 +110,7 @@ module _
           t′ = entered t
 
           leave : (b : Bool) → p .done s ≡ false → cut s (q .limit (t .kept)) ≡ b →
-              g .Good (Either P (l .Below s)) ((branch p q cut b rec s t′) .kept)
+              g .Good (Either P (l .Below s)) ((branch p q b rec s t′) .kept)
           leave true d e = g .above P (l .Below s) (t .kept) (λ a. safe s (q .limit (t .kept)) a fit e) good
           leave false d e = tries-right (p .ways s) s P t′ fit (omega arith) (λ a. l .go s a fit d) good
 
@@ -120,7 +120,7 @@ module _
               g .take P (l .Below s) (t .kept) (p .answer s) (l .stop s fit d) (λ a. l .beats s a fit d) (omega arith) good
           at false d = leave (cut s (q .limit (t .kept))) d refl
 
-    pub walk-right : (cut : p .Node → ℕ → Bool) → Safe p price Beats l cut → (f : ℕ) → Right f (walk p q cut f)
+    pub walk-right : (cut : p .Node → ℕ → Bool) → Safe l cut → (f : ℕ) → Right f (walk p q cut f)
     unfolding walk
     walk-right cut safe zero s P t fit fuel within good = absurd (omega arith)
     walk-right cut safe (suc f) s P t fit fuel within good =

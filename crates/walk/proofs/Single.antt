@@ -8,10 +8,10 @@ use mathlib.Core.Option.{Option, none, some}
 use native.Mathlib.Omega.{arith}
 use Rattle.bits.specs.Choice.{pick}
 use Rattle.bits.proofs.Truth.{never, which, fails}
-use Rattle.walk.specs.Best.{Order, Chosen, IsBest, bestOf, keepBetter, limitOf}
+use Rattle.walk.specs.Best.{Order, IsBest, bestOf, keepBetter, limitOf}
 use Rattle.walk.proofs.Laws.{Keeping, Ordered, NotBetter, Either}
 
-module _ {A : Type 0} (o : Order A) (r : Ordered o) where
+module _ {A : Type 0} {o : Order A} (r : Ordered o) where
   -- what costs more is not better
   dearer-not : (a b : A) → o .price a < o .price b → o .better b a ≡ false
   dearer-not a b h = fails (λ e. let d = r .no-dearer b a e in omega arith)
@@ -90,6 +90,7 @@ module _ {A : Type 0} (o : Order A) (r : Ordered o) where
     keeping =
         record {
           Good = IsBest o k;
+          start = λ a none′. absurd none′;
           only = best-only;
           same = best-same;
           above = best-above;

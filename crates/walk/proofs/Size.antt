@@ -1,10 +1,10 @@
 -- How large the tree is: at most geo b d nodes below a node of height at most d, with at most b ways at each.
 -- The nodes of height below d number at most `terms b d`, so no case of d stands apart. Assumes nothing.
 use Prim.Native.Nat.{ℕ, zero, suc, _+_, _*_, _^_, _≤_, _<_}
-use mathlib.Core.Path.{_≡_, refl, sym, ap, _∙_}
+use mathlib.Core.Path.{_≡_, refl, ap, _∙_}
 use mathlib.Core.Bool.{Bool, true, false}
 use mathlib.Core.List.{List, [], _∷_}
-use native.Mathlib.Nat.{zero-mul, suc-mul, mul-zero, mul-add, pow-zero, pow-succ', mul-le-mul-right}
+use native.Mathlib.Nat.{suc-mul, mul-zero, mul-add, pow-zero, pow-succ', mul-le-mul-right}
 use native.Mathlib.Omega.{arith}
 use lib.ListN.{length}
 use Rattle.walk.specs.Problem.{Problem, Keeper, Tally}
@@ -31,10 +31,10 @@ geo-terms b zero = unfold terms in omega (arith, mul-zero b)
 geo-terms b (suc d) = omega (arith, geo-terms b d, terms-more b (suc d))
 
 module _
-    (p : Problem)
-    (q : Keeper (p .Answer))
-    (price : p .Answer → ℕ)
-    (Beats : p .Answer → p .Answer → Type 0)
+    {p : Problem}
+    {q : Keeper (p .Answer)}
+    {price : p .Answer → ℕ}
+    {Beats : p .Answer → p .Answer → Type 0}
     (l : Laws p price Beats)
     (g : Keeping q price Beats)
     (k b : ℕ)
@@ -46,7 +46,7 @@ module _
         (d : ℕ) (s : p .Node) (t : Tally (q .Kept)) → l .Fit s → height s < d → q .limit (t .kept) ≤ k →
         p .spent s ≤ q .limit (t .kept) → (rec s t) .steps ≤ t .steps + terms b d
 
-    module _ (rec : Search p q) (fall : Falling p q price Beats l g rec) (small : Small rec) where
+    module _ (rec : Search p q) (fall : Falling l g rec) (small : Small rec) where
       try-small :
           (d : ℕ) (s : p .Node) (w : p .Way) (t : Tally (q .Kept)) → l .Fit s → height s ≤ d → q .limit (t .kept) ≤ k →
           (onlyIf (opens p q s w (t .kept)) (rec (p .add s w)) t) .steps ≤ t .steps + terms b d
@@ -72,7 +72,7 @@ module _
       tries-small d (w ∷ ws) s t fit high low =
           let one = onlyIf (opens p q s w (t .kept)) (rec (p .add s w)) t in
           let first = try-small d s w t fit high low in
-          let less = try-fall p q price Beats l g rec fall s w t fit in
+          let less = try-fall l g rec fall s w t fit in
           let flat = steep .level s w fit in
           let rest = tries-small d ws (p .mark s w) one (l .fit-mark s w fit) (omega arith) (omega arith) in
           omega (arith, suc-mul (length ws) (terms b d))
@@ -82,7 +82,7 @@ module _
       node-small cut zero s t fit high low within = absurd (omega arith)
       node-small cut (suc d) s t fit high low within = at (p .done s)
         where
-          leave : (c : Bool) → (branch p q cut c rec s (entered t)) .steps ≤ t .steps + (1 + b * terms b d)
+          leave : (c : Bool) → (branch p q c rec s (entered t)) .steps ≤ t .steps + (1 + b * terms b d)
           leave true = omega arith
           leave false =
               let most = mul-le-mul-right (terms b d) (steep .few s fit) in
@@ -97,7 +97,7 @@ module _
     unfolding walk
     walk-small cut zero d s t fit high low within = omega arith
     walk-small cut (suc f) d s t fit high low within =
-        node-small (walk p q cut f) (walk-fall p q price Beats l g cut f) (walk-small cut f) cut d s t fit high low within
+        node-small (walk p q cut f) (walk-fall l g cut f) (walk-small cut f) cut d s t fit high low within
 
     pub walk-geo :
         (cut : p .Node → ℕ → Bool) (f d : ℕ) (s : p .Node) (t : Tally (q .Kept)) → l .Fit s → height s ≤ d →

@@ -47,7 +47,7 @@ module _ (p : Problem) (q : Keeper (p .Answer)) where
     unfolding node visit branch entered found
     node-grow cut s t = at (p .done s)
       where
-        leave : (b : Bool) → t .steps < (branch p q cut b rec s (entered t)) .steps
+        leave : (b : Bool) → t .steps < (branch p q b rec s (entered t)) .steps
         leave true = omega arith
         leave false = tries-grow (p .ways s) s (entered t)
 
@@ -63,10 +63,10 @@ module _ (p : Problem) (q : Keeper (p .Answer)) where
       omega arith
 
 module _
-    (p : Problem)
-    (q : Keeper (p .Answer))
-    (price : p .Answer → ℕ)
-    (Beats : p .Answer → p .Answer → Type 0)
+    {p : Problem}
+    {q : Keeper (p .Answer)}
+    {price : p .Answer → ℕ}
+    {Beats : p .Answer → p .Answer → Type 0}
     (l : Laws p price Beats)
     (g : Keeping q price Beats)
   where
@@ -105,7 +105,7 @@ module _
       unfolding node visit branch entered found
       node-fall cut s t fit within = at (p .done s)
         where
-          leave : (b : Bool) → q .limit ((branch p q cut b rec s (entered t)) .kept) ≤ q .limit (t .kept)
+          leave : (b : Bool) → q .limit ((branch p q b rec s (entered t)) .kept) ≤ q .limit (t .kept)
           leave true = omega arith
           leave false = tries-fall (p .ways s) s (entered t) fit
 

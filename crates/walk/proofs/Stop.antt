@@ -11,21 +11,8 @@ use Rattle.bits.specs.Choice.{pick}
 use Rattle.bits.proofs.Truth.{pick-true, pick-false}
 use Rattle.walk.specs.Problem.{Problem, Keeper, Tally}
 use Rattle.walk.specs.Walk.{Search, entered, onlyIf, found, opens, tries, branch, visit, node, walk}
-use Rattle.walk.specs.Run.{
-  Outcome,
-  stopped,
-  whole,
-  Bounded,
-  next,
-  runIf,
-  runTries,
-  runBranch,
-  runVisit,
-  runEnter,
-  runNode,
-  run,
-}
-use Rattle.walk.proofs.Steady.{Growing, try-grow, tries-grow, node-grow, walk-grow}
+use Rattle.walk.specs.Run.{Outcome, stopped, whole, Bounded, next, runIf, runTries, runBranch, runVisit, runEnter, runNode, run}
+use Rattle.walk.proofs.Steady.{Growing, tries-grow, node-grow, walk-grow}
 
 -- a tally above the limit is a stop
 unfoldable pub clip : {Kept : Type 0} → ℕ → Tally Kept → Outcome Kept
@@ -85,13 +72,13 @@ module _ (p : Problem) (q : Keeper (p .Answer)) (cut : p .Node → ℕ → Bool)
       where
         leave :
             (b : Bool) → t .steps < most →
-            runBranch p q cut most b bounded s (entered t) ≡ clip most (branch p q cut b rec s (entered t))
+            runBranch p q b bounded s (entered t) ≡ clip most (branch p q b rec s (entered t))
         leave true less = sym (clip-within most (entered t) less)
         leave false less = tries-clips (p .ways s) s (entered t) less
 
         at :
             (b : Bool) → t .steps < most →
-            runVisit p q cut most b bounded s (entered t) ≡ clip most (visit p q cut b rec s (entered t))
+            runVisit p q cut b bounded s (entered t) ≡ clip most (visit p q cut b rec s (entered t))
         at true less = sym (clip-within most (found p q s (entered t)) less)
         at false less = leave (cut s (q .limit (t .kept))) less
 

@@ -23,7 +23,7 @@ module _ {Answer : Type 0} (o : Order Answer) where
   limitOf k (some a) = o .price a
 
   abbrev pub bestOf : ℕ → Keeper Answer
-  bestOf k = record { Kept = Option Answer; keep = keepBetter; limit = limitOf k }
+  bestOf k = record { Kept = Option Answer; empty = none; keep = keepBetter; limit = limitOf k }
 
   -- "The one returned": one of the set, within k, and none of the set is better
   pub record Chosen (k : ℕ) (P : Answer → Type 0) (a : Answer) : Type 0 where

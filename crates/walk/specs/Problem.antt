@@ -27,6 +27,7 @@ pub record Problem : Type 1 where
 -- What is kept of the answers met, and the limit that goes with it.
 pub record Keeper (Answer : Type 0) : Type 1 where
   pub Kept : Type 0
+  pub empty : Kept
   pub keep : Kept → Answer → Kept
   pub limit : Kept → ℕ
 

@@ -1,5 +1,5 @@
--- The search tree, walked to its end. Only `walk` calls itself, by fuel; a tree that ends needs no more fuel than it
--- has free ways (proofs/Promises). Assumes nothing.
+-- The search tree, walked to its end. Only `walk` calls itself, by fuel: any fuel above the number of free ways gives
+-- the same walk (`fuel-enough` in proofs/Promises). Assumes nothing.
 use Prim.Native.Nat.{ℕ, zero, suc, _+_, _^_}
 use mathlib.Core.Bool.{Bool, true, false, _&&_}
 use mathlib.Core.List.{List, [], _∷_}
@@ -33,17 +33,18 @@ module _ (p : Problem) (q : Keeper (p .Answer)) where
   tries rec s [] t = t
   tries rec s (w ∷ ws) t = tries rec (p .mark s w) ws (onlyIf (opens s w (t .kept)) (rec (p .add s w)) t)
 
-  module _ (cut : p .Node → ℕ → Bool) where
-    -- "The pruned engine leaves the node if price plus packing bound exceeds the limit."
-    unfoldable pub branch : Bool → Search → Search
-    branch true rec s t = t
-    branch false rec s t = tries rec s (p .ways s) t
+  -- "The pruned engine leaves the node if price plus packing bound exceeds the limit. Then go through .."
+  unfoldable pub branch : Bool → Search → Search
+  branch true rec s t = t
+  branch false rec s t = tries rec s (p .ways s) t
 
+  module _ (cut : p .Node → ℕ → Bool) where
+    -- "no quad: it is a repair"; "a quad: take the first"
     unfoldable pub visit : Bool → Search → Search
     visit true rec s t = found s t
     visit false rec s t = branch (cut s (q .limit (t .kept))) rec s t
 
-    -- "At a node": no quad, or a quad
+    -- "Entering a node is one step. At a node:"
     unfoldable pub node : Search → Search
     node rec s t = visit (p .done s) rec s (entered t)
 
@@ -51,6 +52,10 @@ module _ (p : Problem) (q : Keeper (p .Answer)) where
     unfoldable pub walk : ℕ → Search
     walk zero s t = t
     walk (suc f) s t = node (walk f) s t
+
+-- at the root no step is counted and nothing kept
+abbrev pub begin : {Answer : Type 0} (q : Keeper Answer) → Tally (q .Kept)
+begin q = record { steps = 0; kept = q .empty }
 
 -- "Both engines, plain and pruned": the plain one leaves no node early
 unfoldable pub plain : (p : Problem) → p .Node → ℕ → Bool
