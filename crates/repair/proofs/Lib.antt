@@ -7,3 +7,4 @@ pub mod Packs
 pub mod Numbers
 pub mod Inserts
 pub mod Toggling
+pub mod Bound

@@ -1,7 +1,7 @@
 -- The number of a pair of vertices: it tells the pair, and it is the number of a pair. By n times the smaller plus the
 -- greater, which the quotient and the remainder take apart again. Assumes nothing.
 use mathlib.Core.Path.{_≡_, refl, sym, ap, ap₂, _∙_}
-use mathlib.Core.Logic.{_⊎_, inl, inr, ⊎-map, _≢_}
+use mathlib.Core.Logic.{_⊎_, inl, inr, _≢_}
 use mathlib.Core.Bool.{Bool, true, false, _&&_, _||_}
 use Prim.Native.Nat.{ℕ, zero, suc, _+_, _*_, _/_, _%_, _≤_, _<_, min, max}
 use native.Mathlib.Nat.{
@@ -16,9 +16,10 @@ use native.Mathlib.Nat.{
 }
 use native.Mathlib.Omega.{arith}
 use lib.Dec.{ltb, eqb}
-use borrow.Author.Tests.{lt-ltb, eq-eqb, ltb-true, eqb-true, ltb-false}
-use Rattle.bits.proofs.Truth.{and-in, and-left, and-right, or-left, or-right, or-out}
+use borrow.Author.Tests.{lt-ltb, eq-eqb, ltb-true, ltb-false}
+use Rattle.bits.proofs.Truth.{and-in, or-left, or-right}
 use Rattle.graph.specs.Graph as graph
+use Rattle.graph.proofs.Flipping.{pair-out}
 use Rattle.repair.specs.Pair.{pairOf, isPair}
 
 pub pair-mirrored : (n x y : ℕ) → pairOf n x y ≡ pairOf n y x
@@ -71,15 +72,9 @@ pair-tells n x y i j lx ly li lj e =
     go (inl h) = or-left _ (and-in (eq-eqb i x (h .0)) (eq-eqb j y (h .1)))
     go (inr h) = or-right (eqb i x && eqb j y) (and-in (eq-eqb i y (h .0)) (eq-eqb j x (h .1)))
 
--- the same pair has the same vertices, and the same number
-pub pair-ends : (x y i j : ℕ) → graph.isPair x y i j ≡ true → ((i ≡ x) × (j ≡ y)) ⊎ ((i ≡ y) × (j ≡ x))
-pair-ends x y i j h =
-    ⊎-map (λ k. (eqb-true i x (and-left (eqb i x) _ k), eqb-true j y (and-right (eqb i x) _ k)))
-    (λ k. (eqb-true i y (and-left (eqb i y) _ k), eqb-true j x (and-right (eqb i y) _ k)))
-    (or-out (eqb i x && eqb j y) (eqb i y && eqb j x) h)
-
+-- the same pair has the same number
 pub pair-told : (n x y i j : ℕ) → graph.isPair x y i j ≡ true → pairOf n i j ≡ pairOf n x y
-pair-told n x y i j h = go (pair-ends x y i j h)
+pair-told n x y i j h = go (pair-out x y i j h)
   where
     go : ((i ≡ x) × (j ≡ y)) ⊎ ((i ≡ y) × (j ≡ x)) → pairOf n i j ≡ pairOf n x y
     go (inl k) = ap₂ (pairOf n) (k .0) (k .1)

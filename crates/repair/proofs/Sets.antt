@@ -125,3 +125,16 @@ share-in x (z ∷ xs) ys m k = go (share-in x xs ys) (member-out x z xs m)
 
 pub unshared : (x : ℕ) (xs ys : List ℕ) → share xs ys ≡ false → member x xs ≡ true → member x ys ≡ false
 unshared x xs ys h m = fails (λ k. never (share-in x xs ys m k) h)
+
+pub share-out : (xs ys : List ℕ) → share xs ys ≡ true → (x : ℕ) × (member x xs ≡ true) × (member x ys ≡ true)
+share-out [] ys h = never h (unfold share in refl)
+share-out (z ∷ xs) ys h = go (share-out xs ys) (or-out (member z ys) (share xs ys) (unfold share in h))
+  where
+    Both : Type 0
+    Both = (x : ℕ) × (member x (z ∷ xs) ≡ true) × (member x ys ≡ true)
+
+    go :
+        (share xs ys ≡ true → (x : ℕ) × (member x xs ≡ true) × (member x ys ≡ true)) →
+        (member z ys ≡ true) ⊎ (share xs ys ≡ true) → (x : ℕ) × (member x (z ∷ xs) ≡ true) × (member x ys ≡ true)
+    go ih (inl k) = (z, member-here z xs, k)
+    go ih (inr k) = let (x, m, l) = ih k in (x, member-there x z xs m, l)

@@ -28,10 +28,11 @@ use Rattle.bits.proofs.Truth.{
 }
 use Rattle.graph.specs.Graph.{IsGraph, within, flipped}
 use Rattle.graph.specs.Graph as graph
+use Rattle.graph.proofs.Flipping.{pair-out, flipped-pair, flipped-other}
 use Rattle.repair.specs.Pair.{pairOf, member}
 use Rattle.repair.specs.Repair.{toggled}
 use Rattle.repair.specs.Tree.{insert}
-use Rattle.repair.proofs.Numbers.{pair-mirrored, pair-tells, pair-ends, pair-told}
+use Rattle.repair.proofs.Numbers.{pair-mirrored, pair-tells, pair-told}
 use Rattle.repair.proofs.Inserts.{insert-member}
 
 -- two lists without a common member that together are a third
@@ -144,7 +145,7 @@ module _ (n : ℕ) (e : ℕ → ℕ → Bool) where
     -- the pair x, y itself
     hit-fresh : (i j : ℕ) → graph.isPair x y i j ≡ true → hit n (insert (pairOf n x y) r) i j ≡ true
     hit-fresh i j h =
-        hit-in n (insert (pairOf n x y) r) i j (ends (pair-ends x y i j h))
+        hit-in n (insert (pairOf n x y) r) i j (ends (pair-out x y i j h))
         (insert-member (pairOf n i j) (pairOf n x y) r ∙ or-left _ (eq-eqb _ _ (pair-told n x y i j h)))
       where
         ends : ((i ≡ x) × (j ≡ y)) ⊎ ((i ≡ y) × (j ≡ x)) → Two n i j
@@ -185,7 +186,7 @@ module _ (n : ℕ) (e : ℕ → ℕ → Bool) where
             toggled n e (insert (pairOf n x y) r) i j ≡ flipped x y (toggled n e r) i j
         go i j (inl h) =
             toggled-hit n e (insert (pairOf n x y) r) i j (hit-fresh i j h) ∙
-            ap not (sym (toggled-missed n e r i j (missed-fresh i j h))) ∙ (unfold flipped in sym (pick-true _ _ h))
+            ap not (sym (toggled-missed n e r i j (missed-fresh i j h))) ∙ sym (flipped-pair x y (toggled n e r) i j h)
         go i j (inr h) =
             toggled-alike n e (insert (pairOf n x y) r) r i j i j (hit-others i j h) refl ∙
-            (unfold flipped in sym (pick-false _ _ h))
+            sym (flipped-other x y (toggled n e r) i j h)

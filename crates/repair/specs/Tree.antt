@@ -1,15 +1,15 @@
 -- Document 01's search tree of a graph, and both engines' walks of it. Assumes nothing.
-use Prim.Native.Nat.{ℕ, zero, suc, _+_, _*_, _/_}
+use Prim.Native.Nat.{ℕ, suc, _+_, _*_}
 use mathlib.Core.Bool.{Bool, true, false, not, _&&_}
 use mathlib.Core.List.{List, [], _∷_}
-use mathlib.Core.Option.{Option, none, some}
+use mathlib.Core.Option.{Option}
 use lib.Dec.{ltb}
 use Rattle.bits.specs.Choice.{pick}
 use Rattle.graph.specs.declared.First.{First}
 use Rattle.graph.specs.declared.First.the-variants.{At, Clear}
 use Rattle.graph.specs.Quad.{quads, first}
 use Rattle.walk.specs.Problem.{Problem, Tally}
-use Rattle.walk.specs.Walk.{walk, plain}
+use Rattle.walk.specs.Walk.{walk, begin}
 use Rattle.walk.specs.Run.{Outcome, run}
 use Rattle.walk.specs.Best.{Order, bestOf}
 use Rattle.repair.specs.Pair.{changeable, member}
@@ -84,8 +84,8 @@ module _ (n : ℕ) (e : ℕ → ℕ → Bool) (toll : ℕ → ℕ) where
 
   -- the whole tree walked: its nodes counted, and what is kept; no path is longer than there are pairs
   unfoldable pub walked : (Node → ℕ → Bool) → ℕ → Tally (Option (List ℕ))
-  walked cut k = walk tree (bestOf (order toll) k) cut (suc (n * n)) root (record { steps = zero; kept = none })
+  walked cut k = walk tree (bestOf (order toll) k) cut (suc (n * n)) root (begin (bestOf (order toll) k))
 
   -- the same under a step limit
   unfoldable pub searched : (Node → ℕ → Bool) → ℕ → ℕ → Outcome (Option (List ℕ))
-  searched cut k most = run tree (bestOf (order toll) k) cut most (suc (n * n)) root (record { steps = zero; kept = none })
+  searched cut k most = run tree (bestOf (order toll) k) cut most (suc (n * n)) root (begin (bestOf (order toll) k))
