@@ -8,3 +8,7 @@ pub mod Numbers
 pub mod Inserts
 pub mod Toggling
 pub mod Bound
+pub mod Supersets
+pub mod Counts
+pub mod Nodes
+pub mod Instance

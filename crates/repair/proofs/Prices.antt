@@ -12,10 +12,14 @@ use Rattle.repair.specs.Packing.{those, lowest}
 use Rattle.repair.proofs.Sets.{member-none, member-out, those-keep, those-drop}
 
 module _ (toll : ℕ → ℕ) where
+  pub price-cons : (x : ℕ) (xs : List ℕ) → price toll (x ∷ xs) ≡ toll x + price toll xs
+  unfolding price
+  price-cons x xs = refl
+
   -- the price of a list's passing numbers, its first taken apart
   pub price-keep :
       (f : ℕ → Bool) (x : ℕ) (xs : List ℕ) → f x ≡ true → price toll (those f (x ∷ xs)) ≡ toll x + price toll (those f xs)
-  price-keep f x xs h = ap (price toll) (those-keep f x xs h) ∙ (unfold price in refl)
+  price-keep f x xs h = ap (price toll) (those-keep f x xs h) ∙ price-cons x (those f xs)
 
   pub price-drop :
       (f : ℕ → Bool) (x : ℕ) (xs : List ℕ) → f x ≡ false → price toll (those f (x ∷ xs)) ≡ price toll (those f xs)
@@ -59,13 +63,10 @@ module _ (toll : ℕ → ℕ) where
   price-part f [] = unfold those in omega arith
   price-part f (x ∷ xs) = go (price-part f xs) (which (f x))
     where
-      whole : price toll (x ∷ xs) ≡ toll x + price toll xs
-      whole = unfold price in refl
-
       go : price toll (those f xs) ≤ price toll xs → (f x ≡ true) ⊎ (f x ≡ false) →
           price toll (those f (x ∷ xs)) ≤ price toll (x ∷ xs)
-      go ih (inl t) = omega (arith, whole, price-keep f x xs t)
-      go ih (inr t) = omega (arith, whole, price-drop f x xs t)
+      go ih (inl t) = omega (arith, price-cons x xs, price-keep f x xs t)
+      go ih (inr t) = omega (arith, price-cons x xs, price-drop f x xs t)
 
   pub lowest-more : (x y : ℕ) (ys : List ℕ) → lowest toll (x ∷ y ∷ ys) ≡ min (toll x) (lowest toll (y ∷ ys))
   unfolding lowest

@@ -44,34 +44,34 @@ waysOf n Clear = []
 abbrev pub order : (ℕ → ℕ) → Order (List ℕ)
 order toll = record { price = price toll; better = better toll }
 
+-- the graph as it is at a node
+unfoldable pub present : ℕ → (ℕ → ℕ → Bool) → Node → ℕ → ℕ → Bool
+present n e s = toggled n e (s .path)
+
+-- "A pair is free if it is neither fixed nor marked."
+unfoldable pub free : ℕ → (ℕ → ℕ) → Node → ℕ → Bool
+free n toll s x = changeable n toll x && not (member x (s .marks))
+
+-- "The pair, tried or not, is marked for the rest of this node."
+unfoldable pub mark : Node → ℕ → Node
+mark s x = record { path = s .path; marks = x ∷ s .marks }
+
+-- "toggle and mark it"
+unfoldable pub add : Node → ℕ → Node
+add s x = record { path = insert x (s .path); marks = x ∷ s .marks }
+
 -- the graph has n vertices and the edges e; `toll` are the prices by number
 module _ (n : ℕ) (e : ℕ → ℕ → Bool) (toll : ℕ → ℕ) where
-  -- the graph as it is at a node
-  unfoldable pub present : Node → ℕ → ℕ → Bool
-  present s = toggled n e (s .path)
-
-  -- "A pair is free if it is neither fixed nor marked."
-  unfoldable pub free : Node → ℕ → Bool
-  free s x = changeable n toll x && not (member x (s .marks))
-
-  -- "The pair, tried or not, is marked for the rest of this node."
-  unfoldable pub mark : Node → ℕ → Node
-  mark s x = record { path = s .path; marks = x ∷ s .marks }
-
-  -- "toggle and mark it"
-  unfoldable pub add : Node → ℕ → Node
-  add s x = record { path = insert x (s .path); marks = x ∷ s .marks }
-
   abbrev pub tree : Problem
   tree =
       record {
         Node = Node;
         Way = ℕ;
         Answer = List ℕ;
-        done = λ s. isClear (first (quads n (present s)));
+        done = λ s. isClear (first (quads n (present n e s)));
         answer = λ s. s .path;
-        ways = λ s. waysOf n (first (quads n (present s)));
-        free = free;
+        ways = λ s. waysOf n (first (quads n (present n e s)));
+        free = free n toll;
         spent = λ s. price toll (s .path);
         toll = toll;
         add = add;
@@ -80,9 +80,9 @@ module _ (n : ℕ) (e : ℕ → ℕ → Bool) (toll : ℕ → ℕ) where
 
   -- "The pruned engine leaves the node if price plus packing bound exceeds the limit."
   unfoldable pub pruned : Node → ℕ → Bool
-  pruned s limit = ltb limit (price toll (s .path) + packing n (free s) toll (quads n (present s)))
+  pruned s limit = ltb limit (price toll (s .path) + packing n (free n toll s) toll (quads n (present n e s)))
 
-  -- the whole tree walked: its nodes counted, and what is kept; no path is longer than there are pairs
+  -- the whole tree walked: its nodes counted, and what is kept; no way is longer than there are pairs
   unfoldable pub walked : (Node → ℕ → Bool) → ℕ → Tally (Option (List ℕ))
   walked cut k = walk tree (bestOf (order toll) k) cut (suc (n * n)) root (begin (bestOf (order toll) k))
 
