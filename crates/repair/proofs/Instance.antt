@@ -10,7 +10,7 @@ use lib.ListN.{length}
 use lib.Dec.{ltb, eqb}
 use borrow.Author.Tests.{ltb-true, not-true}
 use Rattle.bits.specs.Choice.{count}
-use Rattle.bits.proofs.Truth.{never, fails, and-left}
+use Rattle.bits.proofs.Truth.{never, fails}
 use Rattle.graph.specs.Graph.{IsGraph}
 use Rattle.graph.specs.declared.Quad.{Quad}
 use Rattle.graph.specs.declared.First.{First}
@@ -18,7 +18,7 @@ use Rattle.graph.specs.declared.First.the-variants.{At, Clear}
 use Rattle.graph.specs.Quad.{quads, first, Clean}
 use Rattle.graph.proofs.Quads.{Named, listed-named, first-listed, clear-clean}
 use Rattle.walk.proofs.Laws.{Laws, NotBetter, Ordered, Safe, marked}
-use Rattle.repair.specs.Pair.{isPair, changeable, member, all}
+use Rattle.repair.specs.Pair.{changeable, member, all}
 use Rattle.repair.specs.Better.{price, better}
 use Rattle.repair.specs.Repair.{toggled, Repair}
 use Rattle.repair.specs.Packing.{those, pairsOf, packing}
@@ -26,6 +26,7 @@ use Rattle.repair.specs.Tree.{Node, isClear, waysOf, order, present, fre
 use Rattle.repair.proofs.Orders.{cheaper-better, better-no-dearer, better-transitive, better-total}
 use Rattle.repair.proofs.Sets.{member-none, member-here, member-there, member-out, all-at, all-in, those-out}
 use Rattle.repair.proofs.Counts.{count-fewer, count-lost}
+use Rattle.repair.proofs.Numbers.{changeable-below}
 use Rattle.repair.proofs.Inserts.{insert-price}
 use Rattle.repair.proofs.Toggling.{toggled-graph, toggled-parts}
 use Rattle.repair.proofs.Supersets.{lacks, parts-price, superset-unbetter, lacks-parts}
@@ -153,10 +154,6 @@ module _ (n : ℕ) (e : ℕ → ℕ → Bool) (toll : ℕ → ℕ) where
   unfolding free add mark
   free-added s w = refl
 
-  pair-number : (w : ℕ) → changeable n toll w ≡ true → w < n * n
-  unfolding changeable isPair
-  pair-number w h = ltb-true w (n * n) (and-left (ltb w (n * n)) _ (and-left (isPair n w) _ h))
-
   pub spent-add : (s : Node) (w : ℕ) → price toll ((add s w) .path) ≡ price toll (s .path) + toll w
   unfolding add
   spent-add s w = omega (arith, insert-price toll w (s .path))
@@ -173,7 +170,7 @@ module _ (n : ℕ) (e : ℕ → ℕ → Bool) (toll : ℕ → ℕ) where
   count-add s w h =
       rw (free-added s w)
       (count-lost (free n toll (mark s w)) (free n toll s) (free-fewer s w) w (n * n)
-      (pair-number w (free-changeable n toll s w h)) (free-lost s w) h)
+      (changeable-below n toll w (free-changeable n toll s w h)) (free-lost s w) h)
 
   pub count-mark : (s : Node) (w : ℕ) → count (free n toll (mark s w)) (n * n) ≤ count (free n toll s) (n * n)
   count-mark s w = count-fewer (free n toll (mark s w)) (free n toll s) (free-fewer s w) (n * n)

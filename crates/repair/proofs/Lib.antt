@@ -12,3 +12,5 @@ pub mod Supersets
 pub mod Counts
 pub mod Nodes
 pub mod Instance
+pub mod Depths
+pub mod Promises
