@@ -3,3 +3,4 @@ pub mod Refusal
 pub mod Graph
 pub mod Check
 pub mod Quad
+pub mod Levels
