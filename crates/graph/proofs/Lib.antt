@@ -1,0 +1,4 @@
+pub mod LevelLeast
+pub mod MaskRow
+pub mod LevelScan
+pub mod LevelQuad
