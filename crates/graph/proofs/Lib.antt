@@ -2,3 +2,16 @@ pub mod LevelLeast
 pub mod MaskRow
 pub mod LevelScan
 pub mod LevelQuad
+pub mod Listing
+pub mod Ascending
+pub mod Leading
+pub mod Order
+pub mod Facts
+pub mod Places
+pub mod Arrange
+pub mod Once
+pub mod Names
+pub mod Quads
+pub mod Refusals
+pub mod Grid
+pub mod Reading
