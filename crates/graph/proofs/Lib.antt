@@ -2,6 +2,7 @@ pub mod LevelLeast
 pub mod MaskRow
 pub mod LevelScan
 pub mod LevelQuad
+pub mod LevelPairs
 pub mod Listing
 pub mod Ascending
 pub mod Leading
