@@ -1,8 +1,10 @@
 pub mod LevelLeast
 pub mod MaskRow
+pub mod MaskWord
 pub mod LevelScan
 pub mod LevelQuad
 pub mod LevelPairs
+pub mod LevelFirst
 pub mod Listing
 pub mod Ascending
 pub mod Leading
