@@ -4,6 +4,7 @@ pub mod MaskWord
 pub mod LevelScan
 pub mod LevelQuad
 pub mod LevelPairs
+pub mod LevelRows
 pub mod LevelFirst
 pub mod Listing
 pub mod Ascending
