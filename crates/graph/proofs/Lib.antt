@@ -1,3 +1,17 @@
+pub mod LevelLeast
+pub mod MaskRow
+pub mod MaskWord
+pub mod LevelScan
+pub mod LevelQuad
+pub mod LevelPairs
+pub mod LevelRows
+pub mod LevelFirst
+pub mod Listing
+pub mod Ascending
+pub mod Leading
+pub mod Order
+pub mod Facts
+pub mod Places
 pub mod Arrange
 pub mod Ascending
 pub mod CheckLaws
