@@ -2,3 +2,4 @@ pub mod Pair
 pub mod Better
 pub mod Repair
 pub mod Packing
+pub mod Tree

@@ -1,0 +1,14 @@
+pub mod Orders
+pub mod Compared
+pub mod Determined
+pub mod Sets
+pub mod Prices
+pub mod Packs
+pub mod Numbers
+pub mod Inserts
+pub mod Toggling
+pub mod Bound
+pub mod Supersets
+pub mod Counts
+pub mod Nodes
+pub mod Instance
