@@ -1,3 +1,11 @@
+pub mod LevelLeast
+pub mod MaskRow
+pub mod MaskWord
+pub mod LevelScan
+pub mod LevelQuad
+pub mod LevelPairs
+pub mod LevelRows
+pub mod LevelFirst
 pub mod Listing
 pub mod Ascending
 pub mod Leading
