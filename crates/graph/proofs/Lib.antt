@@ -21,3 +21,7 @@ pub mod Grid
 pub mod Reading
 pub mod Flipping
 pub mod Chord
+pub mod CheckLaws
+pub mod Within
+pub mod RowLaws
+pub mod WordLaws

@@ -5,3 +5,4 @@ pub mod Check
 pub mod Price
 pub mod Quad
 pub mod Levels
+pub mod Rows
