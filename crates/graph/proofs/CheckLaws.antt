@@ -39,8 +39,9 @@ module _ (n : ℕ) (g : List ℕ) (i j : ℕ) where
           (i ≡ j) ⊎ (i ≢ j) → (value n g i j ≡ 0) ⊎ (value n g i j ≢ 0) →
           (ltb 1 (value n g i j) || (eqb i j && not (eqb (value n g i j) 0))) ≡ ltb (pick (eqb i j) 0 1) (value n g i j)
       at (inl e) (inl z) =
-          simp
-          (eq-eqb i j e, eq-eqb (value n g i j) 0 z, le-ltb 0 (value n g i j) (omega arith), le-ltb 1 (value n g i j) (omega arith))
+          let none = le-ltb 0 (value n g i j) (omega arith) in
+          let less = le-ltb 1 (value n g i j) (omega arith) in
+          simp (eq-eqb i j e, eq-eqb (value n g i j) 0 z, none, less)
       at (inl e) (inr z) =
           simp (eq-eqb i j e, ne-eqb (value n g i j) 0 z, lt-ltb 0 (value n g i j) (omega arith))
           (or-right (ltb 1 (value n g i j)) refl)

@@ -12,7 +12,7 @@ use lib.Dec.{eqb}
 use borrow.Author.Tests.{eq-eqb, ne-eqb, eqb-true}
 use Rattle.bits.specs.Bit.{bit}
 use Rattle.bits.specs.Choice.{pick}
-use Rattle.bits.proofs.Truth.{below, equal, and-left, and-right, and-off-left, and-off-right, same, fails}
+use Rattle.bits.proofs.Truth.{below, equal, and-left, and-right, and-off-left, and-off-right, fails}
 use Rattle.graph.specs.Graph.{rowEdge, wordEdge, flipped, isPair}
 use Rattle.graph.specs.Rows.{AreWords, Flat, OneWay, Toggled}
 use Rattle.graph.proofs.Within.{
@@ -129,7 +129,8 @@ module _ (x y : ℕ) (hx : x < 128) (hy : y < 128) (words : List ℕ) where
           bit (getD (set words (2 * x + y / 64) r) (2 * i + j / 64) 0) (j % 64) ≡
           flip (eqb i x && eqb j y) (bit (getD words (2 * i + j / 64) 0) (j % 64))
       inner i j hj (inl e) =
-          rw (e, getD-set-same words (2 * x + y / 64) r 0 (omega (arith, W .many)), ← same-entry i j hj e) (toggled (j % 64))
+          rw (e, getD-set-same words (2 * x + y / 64) r 0 (omega (arith, W .many)), ← same-entry i j hj e)
+          (toggled (j % 64))
       inner i j hj (inr d) =
           rw (getD-set-other words (2 * x + y / 64) (2 * i + j / 64) r 0 d, other-entry i j d) refl
 
@@ -147,8 +148,7 @@ module _ (x y : ℕ) (hx : x < 128) (hy : y < 128) (words : List ℕ) where
           rw (off, word-column words i hj) (word-column (set words (2 * x + y / 64) r) i hj)
 
 -- two toggles of different bits, and two of the same
-flip-either : (p q b : Bool) → (p ≡ true → q ≡ true → ⊥) →
-    flip q (flip p b) ≡ flip (p || q) b
+flip-either : (p q b : Bool) → (p ≡ true → q ≡ true → ⊥) → flip q (flip p b) ≡ flip (p || q) b
 flip-either true true b h = absurd (h refl refl)
 flip-either true false b h = refl
 flip-either false true b h = refl

@@ -1,4 +1,4 @@
--- `graph::rows::word_of` meets its contract. The loop's invariant: the bits below `k` are as the edges, the others are clear.
+-- `graph::rows::word_of` meets its contract. The loop's invariant: the bits below `k` are the edges, the rest is clear.
 -- Assumes nothing.
 use native.Mathlib.Omega.{arith}
 use Prim.Native.Nat.{_+_, _-_, _≤_}
