@@ -1,0 +1,77 @@
+use Rattle.search.proofs.table.costs.Statement.{statement}
+use Rattle.search.proofs.table.costs.Tie as tie
+use Rattle.search.proofs.table.costs.Reads as reads
+use Rattle.search.proofs.table.costs.Lts as lts
+
+abbrev Inv-loop : tie.InvT-loop
+Inv-loop cost places old₀ w₀ old w = ?
+
+abbrev μ-loop : tie.MeasureT-loop
+μ-loop cost places old₀ w₀ old w = ?
+
+-- src/table.rt:54:5
+loop-holds : tie.Need-loop-holds Inv-loop μ-loop
+loop-holds c = ?
+
+-- src/table.rt:55:23
+mul-old : tie.Need-mul-old Inv-loop μ-loop
+mul-old c = ?
+
+-- src/table.rt:55:23
+array-read-old : tie.Need-array-read-old Inv-loop μ-loop
+array-read-old c = ?
+
+-- src/table.rt:55:23
+cast-old : tie.Need-cast-old Inv-loop μ-loop
+cast-old c = ?
+
+-- src/table.rt:55:18
+mul-old-2 : tie.Need-mul-old-2 Inv-loop μ-loop
+mul-old-2 c = ?
+
+-- src/table.rt:55:18
+shared-slice-read-old : tie.Need-shared-slice-read-old Inv-loop μ-loop
+shared-slice-read-old c = ?
+
+-- src/table.rt:55:9
+mul-old-3 : tie.Need-mul-old-3 Inv-loop μ-loop
+mul-old-3 c = ?
+
+-- src/table.rt:55:9
+array-write-old : tie.Need-array-write-old Inv-loop μ-loop
+array-write-old c = ?
+
+-- src/table.rt:56:9
+add-w : tie.Need-add-w Inv-loop μ-loop
+add-w c = ?
+
+-- src/table.rt:54:5
+loop-less : tie.Need-loop-less Inv-loop μ-loop
+loop-less c = ?
+
+-- src/table.rt:54:5
+loop-again : tie.Need-loop-again Inv-loop μ-loop
+loop-again c = ?
+
+-- src/table.rt:48:1
+returns : tie.Need-returns Inv-loop μ-loop
+returns c = ?
+
+pub costs-spec : {M : Type 1} → statement M
+costs-spec =
+    tie.close
+    (tie.spec
+    Inv-loop
+    μ-loop
+    loop-holds
+    mul-old
+    array-read-old
+    cast-old
+    mul-old-2
+    shared-slice-read-old
+    mul-old-3
+    array-write-old
+    add-w
+    loop-less
+    loop-again
+    returns)
