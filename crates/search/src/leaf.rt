@@ -11,10 +11,10 @@ ghost use Rattle.repair.specs.Packing.{packing};
 ghost use Rattle.search.specs.Table.{tollAt, freeAt, Place, numberAt};
 ghost use Rattle.search.specs.Trail.{Put, Closed};
 ghost use Rattle.search.specs.Memory.{Kept, improves, budget};
+use crate::Tally;
 use crate::stand;
 use crate::table;
 use crate::trail;
-use crate::Tally;
 
 // Entering a node is one step.
 pub fn entered(t: Tally) -> Tally

@@ -1,9 +1,9 @@
 // The two engines, plain and pruned: the cheapest repair of a graph by document 01's search tree.
 
-pub mod trail;
-pub mod table;
-pub mod stand;
 pub mod leaf;
+pub mod stand;
+pub mod table;
+pub mod trail;
 pub mod tree;
 
 // "One running tally": the steps, the limit, and one more than the number of pairs of the repair that is kept, 0 where none

@@ -23,7 +23,14 @@ pub fn places(q: graph::Quad) -> [u16; 6]
     requires { ⌜ (q .a < 128) × (q .b < 128) × (q .c < 128) × (q .d < 128) ⌝ }
     ensures { λ r. ⌜ r ≡ pairsOf 128 q ⌝ }
 {
-    [place(q.a, q.b), place(q.a, q.c), place(q.a, q.d), place(q.b, q.c), place(q.b, q.d), place(q.c, q.d)]
+    [
+        place(q.a, q.b),
+        place(q.a, q.c),
+        place(q.a, q.d),
+        place(q.b, q.c),
+        place(q.b, q.d),
+        place(q.c, q.d),
+    ]
 }
 
 // The number of the pair at p.
