@@ -1,2 +1,3 @@
 pub mod Gaps
 pub mod Inserting
+pub mod Marking

@@ -1,3 +1,10 @@
+use mathlib.Core.Path.{_≡_, refl, sym, ap, _∙_}
+use Prim.Native.Nat.{_+_, _-_, _≤_, _<_}
+use native.Mathlib.Omega.{arith}
+use lib.ListN.{length, getD, take, drop, length-set}
+use Rattle.search.proofs.Marking.{row-small}
+use Rattle.search.specs.Table.{numberAt}
+use borrow.Author.Needs.{needs}
 use Rattle.search.proofs.table.number.Statement.{statement}
 use Rattle.search.proofs.table.number.Tie as tie
 use Rattle.search.proofs.table.number.Reads as reads
@@ -5,19 +12,20 @@ use Rattle.search.proofs.table.number.Lts as lts
 
 -- src/table.rt:34:6
 mul-result : tie.Need-mul-result
-mul-result c = ?
+mul-result c = omega (arith, row-small (c .args .n) (c .args .p) (c .pre .0) (c .pre .1))
 
 -- src/table.rt:34:6
 add-result : tie.Need-add-result
-add-result c = ?
+add-result c = omega (arith, row-small (c .args .n) (c .args .p) (c .pre .0) (c .pre .1))
 
 -- src/table.rt:34:5
 cast-result : tie.Need-cast-result
-cast-result c = ?
+cast-result c = omega (arith, row-small (c .args .n) (c .args .p) (c .pre .0) (c .pre .1))
 
 -- src/table.rt:30:1
 returns : tie.Need-returns
-returns c = ?
+unfolding numberAt
+returns c = refl
 
 pub number-spec : {M : Type 1} → statement M
 number-spec = tie.close (tie.spec mul-result add-result cast-result returns)

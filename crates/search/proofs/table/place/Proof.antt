@@ -1,3 +1,8 @@
+use mathlib.Core.Path.{_≡_, refl, sym, ap, _∙_}
+use Prim.Native.Nat.{_+_, _-_, _≤_, _<_}
+use native.Mathlib.Omega.{arith}
+use lib.ListN.{length, getD, take, drop, length-set}
+use Rattle.repair.specs.Pair.{pairOf}
 use borrow.Author.Needs.{needs}
 use Rattle.search.proofs.table.place.Statement.{statement}
 use Rattle.search.proofs.table.place.Tie as tie
@@ -18,7 +23,8 @@ cast-result c = search needs
 
 -- src/table.rt:16:9
 returns : tie.Need-returns
-returns c = ?
+unfolding pairOf
+returns c = omega arith
 
 -- src/table.rt:18:6
 mul-result-2 : tie.Need-mul-result-2
@@ -34,7 +40,8 @@ cast-result-2 c = search needs
 
 -- src/table.rt:11:1
 returns-2 : tie.Need-returns-2
-returns-2 c = ?
+unfolding pairOf
+returns-2 c = omega arith
 
 pub place-spec : {M : Type 1} → statement M
 place-spec =

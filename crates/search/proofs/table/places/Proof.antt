@@ -1,3 +1,8 @@
+use mathlib.Core.Path.{_≡_, refl, sym, ap, _∙_}
+use Prim.Native.Nat.{_+_, _-_, _≤_, _<_}
+use native.Mathlib.Omega.{arith}
+use lib.ListN.{length, getD, take, drop, length-set}
+use Rattle.repair.specs.Packing.{pairsOf}
 use borrow.Author.Needs.{needs}
 use Rattle.search.proofs.table.places.Statement.{statement}
 use Rattle.search.proofs.table.places.Tie as tie
@@ -31,7 +36,8 @@ place-requires-6 c κs = search needs
 
 -- src/table.rt:22:1
 returns : tie.Need-returns
-returns c = ?
+unfolding pairsOf
+returns c = cc
 
 pub places-spec : {M : Type 1} → statement M
 places-spec =
