@@ -1,3 +1,5 @@
+use mathlib.Core.Path.{_≡_, refl, sym, ap, _∙_}
+use native.Mathlib.Omega.{arith}
 use borrow.Author.Needs.{needs}
 use Rattle.search.proofs.leaf.enter.Statement.{statement}
 use Rattle.search.proofs.leaf.enter.Tie as tie
@@ -29,7 +31,7 @@ same-length-2 c = search needs
 
 -- src/leaf.rt:58:1
 returns : tie.Need-returns
-returns c = ?
+returns c = (c .before .before .before .before .before .before .before .toggle .ensures, rw (← c .before .before .before .number .ensures) (c .before .before .put .ensures))
 
 pub enter-spec : {M : Type 1} → statement M
 enter-spec =

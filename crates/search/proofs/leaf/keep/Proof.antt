@@ -1,3 +1,8 @@
+use mathlib.Core.Path.{_≡_, refl, sym, ap, _∙_}
+use native.Mathlib.Omega.{arith}
+use lib.ListN.{take}
+use Rattle.search.proofs.Choosing.{kept-not, kept-new}
+use borrow.Author.Tests.{not-true, not-false}
 use borrow.Author.Needs.{needs}
 use Rattle.search.proofs.leaf.keep.Statement.{statement}
 use Rattle.search.proofs.leaf.keep.Tie as tie
@@ -16,7 +21,7 @@ same-length c = search needs
 
 -- src/leaf.rt:104:9
 returns : tie.Need-returns
-returns c = ?
+returns c = let a = c .before .before .before .before .before .args in kept-not (take (a .count) (a .path .now)) (a .kept .now) (a .count) (a .spent) (a .t) (sym (c .before .improves .ensures) ∙ not-true _ (c .if1 .taken))
 
 -- src/leaf.rt:106:5
 copy-requires : tie.Need-copy-requires
@@ -32,7 +37,7 @@ same-length-2 c = search needs
 
 -- src/leaf.rt:99:1
 returns-2 : tie.Need-returns-2
-returns-2 c = ?
+returns-2 c = let a = c .before .before .before .before .before .before .before .before .before .args in kept-new (take (a .count) (a .path .now)) (a .kept .now) (a .count) (a .spent) (a .t) (c .before .before .copy .last .1 .0) (sym (c .before .before .before .before .before .improves .ensures) ∙ not-false _ (c .before .before .before .before .if1 .left)) (c .before .before .copy .ensures)
 
 pub keep-spec : {M : Type 1} → statement M
 keep-spec =

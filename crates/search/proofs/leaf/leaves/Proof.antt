@@ -1,3 +1,5 @@
+use mathlib.Core.Path.{_≡_, refl, sym, ap, _∙_}
+use native.Mathlib.Omega.{arith}
 use borrow.Author.Needs.{needs}
 use Rattle.search.proofs.leaf.leaves.Statement.{statement}
 use Rattle.search.proofs.leaf.leaves.Tie as tie
@@ -11,7 +13,7 @@ cut-requires c κs = search needs
 
 -- src/leaf.rt:52:9
 returns : tie.Need-returns
-returns c = ?
+returns c = rw (c .before .if1 .taken) (c .cut .ensures)
 
 -- src/leaf.rt:46:1
 returns-2 : tie.Need-returns-2
