@@ -21,6 +21,11 @@ use Rattle.repair.specs.Tree.{order}
 use Rattle.search.specs.declared.Tally.{Tally}
 use Rattle.search.specs.Memory.{Holds, improves, Kept}
 
+-- the limit and the list of the tally r are those of what is kept
+pub record Stored (toll : ℕ → ℕ) (k : ℕ) (o : Option (List ℕ)) (r : Tally) (after : List ℕ) : Type 0 where
+  pub limit : r .limit ≡ limitOf (order toll) k o
+  pub kept : Holds (r .kept) after o
+
 module _ (toll : ℕ → ℕ) (k : ℕ) (trail list : List ℕ) (spent : ℕ) (t : Tally) (cost : spent ≡ price toll trail) where
   -- with nothing kept every repair is
   improves-none : t .kept ≡ 0 → improves trail list spent t ≡ true
@@ -40,13 +45,8 @@ module _ (toll : ℕ → ℕ) (k : ℕ) (trail list : List ℕ) (spent : ℕ) (t
       ap₂ (λ x y. ltb x y || (eqb x y && smaller trail (take (t .kept - 1) list))) cost limit ∙
       ap (λ l. ltb (price toll trail) (price toll b) || (eqb (price toll trail) (price toll b) && smaller trail l)) same
 
-  -- what holds of the new limit and the list
-  pub record Stored (o : Option (List ℕ)) (r : Tally) (after : List ℕ) : Type 0 where
-    pub limit : r .limit ≡ limitOf (order toll) k o
-    pub kept : Holds (r .kept) after o
-
   module _ (count : ℕ) (after : List ℕ) (r : Tally) (many : count ≡ length trail) (done : Kept trail list after count spent t r) where
-    stored-new : improves trail list spent t ≡ true → Stored (some trail) r after
+    stored-new : improves trail list spent t ≡ true → Stored toll k (some trail) r after
     unfolding limitOf
     stored-new h =
         let whole : after ≡ trail ++ drop count list = done .new-list ∙ pick-true _ _ h in
@@ -61,7 +61,7 @@ module _ (toll : ℕ → ℕ) (k : ℕ) (trail list : List ℕ) (spent : ℕ) (t
 
     stored-old :
         (b : List ℕ) → improves trail list spent t ≡ false → t .limit ≡ price toll b → Holds (t .kept) list (some b) →
-        Stored (some b) r after
+        Stored toll k (some b) r after
     unfolding limitOf
     stored-old b h limit holds =
         record {
@@ -75,7 +75,7 @@ module _ (toll : ℕ → ℕ) (k : ℕ) (trail list : List ℕ) (spent : ℕ) (t
 
     pub stored :
         (o : Option (List ℕ)) → t .limit ≡ limitOf (order toll) k o → Holds (t .kept) list o →
-        Stored (keepBetter (order toll) o trail) r after
+        Stored toll k (keepBetter (order toll) o trail) r after
     unfolding keepBetter limitOf
     stored none limit holds = stored-new (improves-none holds)
     stored (some b) limit holds = go (which (better toll trail b))
@@ -85,6 +85,6 @@ module _ (toll : ℕ → ℕ) (k : ℕ) (trail list : List ℕ) (spent : ℕ) (t
 
         go :
             (better toll trail b ≡ true) ⊎ (better toll trail b ≡ false) →
-            Stored (pick (better toll trail b) (some trail) (some b)) r after
+            Stored toll k (pick (better toll trail b) (some trail) (some b)) r after
         go (inl h) = rw h (stored-new (is ∙ h))
         go (inr h) = rw h (stored-old b (is ∙ h) limit holds)

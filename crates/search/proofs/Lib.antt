@@ -9,3 +9,6 @@ pub mod Alike
 pub mod States
 pub mod Cuts
 pub mod Keeping
+pub mod AtNode
+pub mod AtWay
+pub mod AtWays
