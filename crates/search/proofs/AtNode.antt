@@ -26,18 +26,12 @@ use Rattle.repair.specs.Tree.{Node, isClear, waysOf, order, present, tree, engi
 use Rattle.search.specs.declared.Tally.{Tally}
 use Rattle.search.specs.Table.{tollAt, freeAt, numberAt}
 use Rattle.search.specs.Memory as memory
-use Rattle.search.specs.Memory.{Same, Follows, Kept}
+use Rattle.search.specs.Memory.{Entered, Same, Follows, Kept}
 use Rattle.search.specs.Steps.{runs, left, tries}
 use Rattle.search.proofs.Runs.{run-stop, run-found, run-left, run-tries}
 use Rattle.search.proofs.Placing.{places-numbers}
 use Rattle.search.proofs.Cuts.{engine-read}
 use Rattle.search.proofs.Keeping.{Stored, stored}
-
--- one step more
-pub record Entered (t here : Tally) : Type 0 where
-  pub counted : here .steps ≡ suc (t .steps)
-  pub limited : here .limit ≡ t .limit
-  pub held : here .kept ≡ t .kept
 
 module _
     {n : ℕ} {e : ℕ → ℕ → Bool} {toll : ℕ → ℕ} {k most : ℕ} {s : Node} {o : problem.Tally (Option (List ℕ))}

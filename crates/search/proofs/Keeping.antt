@@ -52,11 +52,10 @@ module _ (toll : ℕ → ℕ) (k : ℕ) (trail list : List ℕ) (spent : ℕ) (t
         let whole : after ≡ trail ++ drop count list = done .new-list ∙ pick-true _ _ h in
         record {
           limit = done .new-limit ∙ pick-true _ _ h ∙ cost;
-          kept =
-              (
-                done .new-kept ∙ pick-true _ _ h ∙ add-one count ∙ ap suc many,
-                ap (take (length trail)) whole ∙ take-append-seam trail (drop count list),
-              );
+          kept = (
+            done .new-kept ∙ pick-true _ _ h ∙ add-one count ∙ ap suc many,
+            ap (take (length trail)) whole ∙ take-append-seam trail (drop count list),
+          );
         }
 
     stored-old :
@@ -66,11 +65,10 @@ module _ (toll : ℕ → ℕ) (k : ℕ) (trail list : List ℕ) (spent : ℕ) (t
     stored-old b h limit holds =
         record {
           limit = done .new-limit ∙ pick-false _ _ h ∙ limit;
-          kept =
-              (
-                done .new-kept ∙ pick-false _ _ h ∙ holds .0,
-                ap (take (length b)) (done .new-list ∙ pick-false _ _ h) ∙ holds .1,
-              );
+          kept = (
+            done .new-kept ∙ pick-false _ _ h ∙ holds .0,
+            ap (take (length b)) (done .new-list ∙ pick-false _ _ h) ∙ holds .1,
+          );
         }
 
     pub stored :

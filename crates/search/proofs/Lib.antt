@@ -12,3 +12,6 @@ pub mod Keeping
 pub mod AtNode
 pub mod AtWay
 pub mod AtWays
+pub mod NodeEnds
+pub mod WayEnds
+pub mod WaysEnds

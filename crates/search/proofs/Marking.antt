@@ -3,7 +3,7 @@ use mathlib.Core.Path.{_≡_, refl, sym, ap, _∙_}
 use mathlib.Core.Logic.{_⊎_, inl, inr, _≢_}
 use mathlib.Core.Bool.{Bool, true, false, _||_}
 use mathlib.Core.List.{List, [], _∷_}
-use Prim.Native.Nat.{ℕ, suc, _+_, _*_, _/_, _%_, _≤_, _<_}
+use Prim.Native.Nat.{ℕ, zero, suc, _+_, _*_, _/_, _%_, _≤_, _<_}
 use native.Mathlib.Nat.{mul-le-mul}
 use native.Mathlib.Omega.{arith}
 use native.Mathlib.Numerals.{add-one}
@@ -12,6 +12,7 @@ use lib.ListN.{length, getD, drop, set, length-set}
 use lib.Seq.{drop-cons, getD-set-same, getD-set-other, ext-getD}
 use Rattle.bits.proofs.Truth.{never, or-off, equal}
 use Rattle.repair.specs.Pair.{member}
+use Rattle.repair.proofs.Sets.{member-here, member-there}
 use Rattle.search.specs.Table.{Costs, Apart}
 
 -- the row of a place times n is small
@@ -30,6 +31,12 @@ told-next cost places old w fits told v less = go (equal v w)
     go : (v ≡ w) ⊎ (v ≢ w) → getD (set old w (getD cost (getD places w 0) 0)) v 0 ≡ getD cost (getD places v 0) 0
     go (inl e) = rw e (getD-set-same old w (getD cost (getD places w 0) 0) 0 fits)
     go (inr e) = getD-set-other old w v (getD cost (getD places w 0) 0) 0 e ∙ told v (omega arith)
+
+-- an entry of a list is a member
+pub entry-member : (xs : List ℕ) (i : ℕ) → i < length xs → member (getD xs i 0) xs ≡ true
+entry-member [] i h = absurd (omega arith)
+entry-member (x ∷ xs) zero h = member-here x xs
+entry-member (x ∷ xs) (suc i) h = member-there (getD xs i 0) x xs (entry-member xs i (omega arith))
 
 -- nothing is apart where no place is listed
 pub apart-none : (first cost : List ℕ) → Apart [] first cost → cost ≡ first

@@ -69,7 +69,7 @@ module _
     pub at-free : free n toll s x ≡ ltb (getD cost p 0) fixed
     at-free =
         let here : freeAt n cost x ≡ ltb (getD cost p 0) fixed =
-          unfold freeAt in ap (λ c. ltb c fixed) (toll-here n cost p few at fits)
+        unfold freeAt in ap (λ c. ltb c fixed) (toll-here n cost p few at fits)
         in
         sym (h .opens x (number-below n p few at)) ∙ here
 
@@ -83,7 +83,7 @@ module _
         go (inl q) = rw q (free-here n cost p few at fits ∙ sym (mark-shut n toll s x))
         go (inr q) =
             let as-was : freeAt n (set cost p fixed) y ≡ freeAt n cost y =
-              unfold freeAt in ap (λ c. ltb c fixed) (toll-other n cost p few at fits y q)
+            unfold freeAt in ap (λ c. ltb c fixed) (toll-other n cost p few at fits y q)
             in
             as-was ∙ h .opens y l ∙ sym (mark-open n toll s x y q)
 

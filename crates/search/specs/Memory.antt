@@ -45,6 +45,12 @@ pub record Sound (n most : ℕ) (t : Tally) : Type 0 where
   pub bounded : t .limit ≤ budget
   pub listed : t .kept ≤ suc (pairs n)
 
+-- "Entering a node is one step."
+pub record Entered (t here : Tally) : Type 0 where
+  pub counted : here .steps ≡ suc (t .steps)
+  pub limited : here .limit ≡ t .limit
+  pub held : here .kept ≡ t .kept
+
 -- the memory stands for the node s of the tree of the graph e at the prices `toll`
 pub record At (n : ℕ) (e : ℕ → ℕ → Bool) (toll : ℕ → ℕ) (s : Node) (words cost path : List ℕ) (count spent : ℕ) : Type 0 where
   pub edges : wordEdge words ≡ present n e s

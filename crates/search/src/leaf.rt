@@ -10,7 +10,7 @@ ghost use Rattle.graph.specs.Rows.{Toggled};
 ghost use Rattle.repair.specs.Packing.{packing};
 ghost use Rattle.search.specs.Table.{tollAt, freeAt, Place, numberAt};
 ghost use Rattle.search.specs.Trail.{Put, Closed};
-ghost use Rattle.search.specs.Memory.{Kept, improves, budget};
+ghost use Rattle.search.specs.Memory.{Entered, Kept, improves, budget};
 use crate::Tally;
 use crate::stand;
 use crate::table;
@@ -19,7 +19,7 @@ use crate::trail;
 // Entering a node is one step.
 pub fn entered(t: Tally) -> Tally
     requires { ⌜ t .steps < 8589934592 ⌝ }
-    ensures { λ r. ⌜ (r .steps ≡ suc (t .steps)) × (r .limit ≡ t .limit) × (r .kept ≡ t .kept) ⌝ }
+    ensures { λ r. ⌜ Entered t r ⌝ }
 {
     Tally {
         steps: t.steps + 1,
