@@ -51,10 +51,11 @@ stepsOf (Stopped steps) = steps
 stepsOf (Nothing steps) = steps
 stepsOf (Repaired cost count steps) = steps
 
-module _ (prune : Bool) (n : ℕ) (g ps : List ℕ) (k most : ℕ) (list : List ℕ) where
+-- the graph has n vertices and the edges e; `toll` are the prices by number
+module _ (prune : Bool) (n : ℕ) (e : ℕ → ℕ → Bool) (toll : ℕ → ℕ) (k most : ℕ) (list : List ℕ) where
   -- the nodes of the engine's tree: "Entering a node is one step."
   abbrev pub nodes : ℕ
-  nodes = (walked n (edge n g) (tollOf ps) prune k) .steps
+  nodes = (walked n e toll prune k) .steps
 
   -- 9: "the tree has more than L nodes; steps = L"
   pub record Over (steps : ℕ) (after : List ℕ) : Type 0 where
@@ -66,7 +67,7 @@ module _ (prune : Bool) (n : ℕ) (g ps : List ℕ) (k most : ℕ) (list : List 
   pub record None (steps : ℕ) (after : List ℕ) : Type 0 where
     pub within : nodes ≤ most
     pub counted : steps ≡ nodes
-    pub best : IsBest (order (tollOf ps)) k (Repair n (edge n g) (tollOf ps)) none
+    pub best : IsBest (order toll) k (Repair n e toll) none
     pub unchanged : after ≡ list
 
   -- "The one returned has the lowest price; among equals, ..": its price, how many pairs it has, and the list, whose "Entries
@@ -75,8 +76,8 @@ module _ (prune : Bool) (n : ℕ) (g ps : List ℕ) (k most : ℕ) (list : List 
     pub within : nodes ≤ most
     pub counted : steps ≡ nodes
     pub repair : List ℕ
-    pub best : IsBest (order (tollOf ps)) k (Repair n (edge n g) (tollOf ps)) (some repair)
-    pub paid : cost ≡ price (tollOf ps) repair
+    pub best : IsBest (order toll) k (Repair n e toll) (some repair)
+    pub paid : cost ≡ price toll repair
     pub many : count ≡ length repair
     pub written : after ≡ repair ++ drop (length repair) list
 
@@ -87,6 +88,7 @@ module _ (prune : Bool) (n : ℕ) (g ps : List ℕ) (k most : ℕ) (list : List 
   Meant (Nothing steps) after = None steps after
   Meant (Repaired cost count steps) after = Best cost count steps after
 
-  pub record Promise (r : Answer) (after : List ℕ) : Type 0 where
-    pub refused : refusal r ≡ firstOf (checks n g ps k list)
-    pub meant : Meant r after
+-- what an engine promises: `g` are the graph's bytes, `ps` the prices, `k` the budget, `most` the step limit L
+pub record Promise (prune : Bool) (n : ℕ) (g ps : List ℕ) (k most : ℕ) (list : List ℕ) (r : Answer) (after : List ℕ) : Type 0 where
+  pub refused : refusal r ≡ firstOf (checks n g ps k list)
+  pub meant : Meant prune n (edge n g) (tollOf ps) k most list r after

@@ -3,3 +3,4 @@ pub mod Trail
 pub mod Memory
 pub mod Steps
 pub mod Answer
+pub mod Ends

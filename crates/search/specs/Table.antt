@@ -1,11 +1,11 @@
 -- The working table of costs: row i, column j at i x 128 + j, and the places of pairs in it. Assumes nothing.
 use mathlib.Core.Path.{_≡_}
-use mathlib.Core.Bool.{Bool, false}
+use mathlib.Core.Bool.{Bool, false, _&&_}
 use mathlib.Core.List.{List}
 use Prim.Native.Nat.{ℕ, _+_, _*_, _-_, _/_, _%_, _<_}
 use lib.ListN.{length, getD, set}
 use lib.Dec.{ltb}
-use Rattle.bits.specs.Choice.{count}
+use Rattle.bits.specs.Choice.{pick, count}
 use Rattle.graph.specs.Price.{fixed}
 use Rattle.repair.specs.Pair.{member}
 
@@ -44,3 +44,9 @@ pub record Costs (cost places old : List ℕ) : Type 0 where
 pub record Apart (places first second : List ℕ) : Type 0 where
   pub long : length second ≡ length first
   pub others : (p : ℕ) → member p places ≡ false → getD second p 0 ≡ getD first p 0
+
+-- the table of the n x n prices: the pairs' prices, and 65,535 everywhere else
+pub record Tabled (n : ℕ) (ps cost : List ℕ) : Type 0 where
+  pub long : length cost ≡ 16384
+  pub costs :
+      (i j : ℕ) → i < 128 → j < 128 → getD cost (i * 128 + j) 0 ≡ pick (ltb i j && ltb j n) (getD ps (i * n + j) 0) fixed

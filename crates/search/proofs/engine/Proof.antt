@@ -1,0 +1,69 @@
+use borrow.Author.Needs.{needs}
+use Rattle.search.proofs.engine.Statement.{statement}
+use Rattle.search.proofs.engine.Tie as tie
+use Rattle.search.proofs.engine.Reads as reads
+use Rattle.search.proofs.engine.Lts as lts
+use Rattle.graph.proofs.rows.flat_of.Reads as flat-of-reads
+use Rattle.search.proofs.stand.table_of.Reads as table-of-reads
+use Rattle.search.proofs.told.Reads as told-reads
+use Rattle.search.proofs.tree.node.Reads as node-reads
+
+-- src/lib.rt:157:21
+flat-of-requires : tie.Need-flat-of-requires
+flat-of-requires c κs = search needs
+
+-- src/lib.rt:158:20
+table-of-requires : tie.Need-table-of-requires
+table-of-requires c κs = search needs
+
+-- src/lib.rt:166:24
+slice-aggregate-node : tie.Need-slice-aggregate-node
+slice-aggregate-node c = search needs
+
+-- src/lib.rt:166:36
+slice-aggregate-node-2 : tie.Need-slice-aggregate-node-2
+slice-aggregate-node-2 c = search needs
+
+-- src/lib.rt:166:47
+slice-aggregate-node-3 : tie.Need-slice-aggregate-node-3
+slice-aggregate-node-3 c = search needs
+
+-- src/lib.rt:166:58
+slice-aggregate-node-4 : tie.Need-slice-aggregate-node-4
+slice-aggregate-node-4 c = search needs
+
+-- src/lib.rt:166:9
+node-requires : tie.Need-node-requires
+node-requires c κs = ?
+
+-- src/lib.rt:167:19
+slice-aggregate-told : tie.Need-slice-aggregate-told
+slice-aggregate-told c = search needs
+
+-- src/lib.rt:167:5
+told-requires : tie.Need-told-requires
+told-requires c κs = ?
+
+-- src/lib.rt:153:1
+same-length : tie.Need-same-length
+same-length c = search needs
+
+-- src/lib.rt:153:1
+returns : tie.Need-returns
+returns c = ?
+
+pub engine-spec : {M : Type 1} → statement M
+engine-spec =
+    tie.close
+    (tie.spec
+    flat-of-requires
+    table-of-requires
+    slice-aggregate-node
+    slice-aggregate-node-2
+    slice-aggregate-node-3
+    slice-aggregate-node-4
+    node-requires
+    slice-aggregate-told
+    told-requires
+    same-length
+    returns)
