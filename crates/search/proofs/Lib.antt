@@ -15,3 +15,4 @@ pub mod AtWays
 pub mod NodeEnds
 pub mod WayEnds
 pub mod WaysEnds
+pub mod Refusing
