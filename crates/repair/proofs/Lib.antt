@@ -14,3 +14,4 @@ pub mod Nodes
 pub mod Instance
 pub mod Depths
 pub mod Promises
+pub mod Figures
