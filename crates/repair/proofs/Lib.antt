@@ -15,3 +15,6 @@ pub mod Instance
 pub mod Depths
 pub mod Promises
 pub mod Figures
+pub mod Listed
+pub mod Pairs
+pub mod Always
