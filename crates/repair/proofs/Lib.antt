@@ -18,3 +18,4 @@ pub mod Figures
 pub mod Listed
 pub mod Pairs
 pub mod Always
+pub mod Tolls
