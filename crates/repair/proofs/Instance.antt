@@ -80,9 +80,9 @@ module _ (n : ℕ) (e : ℕ → ℕ → Bool) (toll : ℕ → ℕ) where
       limit < price toll a
   unfolding pruned
   pruned-above s limit a fit over b =
-      let high = ltb-true limit (price toll (s .path) + packing n (free n toll s) toll (quads n (present n e s))) over in
       omega (
         arith,
+        ltb-true,
         bound-free n (present n e s) (rest s a) (free n toll s) toll (all-in (free n toll s) (rest s a) (rest-free s a b)) (rest-cleans s a b),
         parts-price toll (s .path) a (fit .sorted) (b .repair .sorted) (b .has),
       )

@@ -1,13 +1,14 @@
 -- The packing bound against any list that shares a free pair with every quad: the taken quads' free pairs are disjoint,
 -- and each taken quad adds at most the price of the number that it shares with the list. Assumes nothing.
 use mathlib.Core.Path.{_≡_, refl, sym, ap, _∙_}
-use mathlib.Core.Logic.{_⊎_, inl, inr}
 use mathlib.Core.Bool.{Bool, true, false, not, _||_}
 use mathlib.Core.List.{List, [], _∷_, _++_, List·Memᴰ, List·Memᴰ·head, List·Memᴰ·tail}
 use Prim.Native.Nat.{ℕ, _+_, _≤_}
+use native.Mathlib.Nat.{le-trans, add-le-add}
 use native.Mathlib.Omega.{arith}
 use borrow.Author.Tests.{not-true}
-use Rattle.bits.proofs.Truth.{which, or-off, or-off-right, or-left, not-in, not-off, pick-true, pick-false}
+use Rattle.bits.specs.Choice.{pick}
+use Rattle.bits.proofs.Truth.{or-off, or-off-right, or-left, not-in, not-off, pick-false}
 use Rattle.graph.specs.declared.Quad.{Quad}
 use Rattle.repair.specs.Pair.{member}
 use Rattle.repair.specs.Better.{price}
@@ -15,20 +16,12 @@ use Rattle.repair.specs.Packing.{pairsOf, those, share, lowest, empty, s
 use Rattle.repair.proofs.Sets.{member-none, member-append, unshared}
 use Rattle.repair.proofs.Prices.{price-gap, price-part, lowest-least}
 
+-- a choice is at most what both of its parts are
+pick-most : (b : Bool) (x y most : ℕ) → (b ≡ true → x ≤ most) → (b ≡ false → y ≤ most) → pick b x y ≤ most
+pick-most true x y most h k = h refl
+pick-most false x y most h k = k refl
+
 module _ (n : ℕ) (free : ℕ → Bool) (toll : ℕ → ℕ) (xs : List ℕ) where
-  packed-skip :
-      (taken : List ℕ) (q : Quad) (qs : List Quad) → share (those free (pairsOf n q)) taken ≡ true →
-      packed n free toll taken (q ∷ qs) ≡ packed n free toll taken qs
-  unfolding packed
-  packed-skip taken q qs h = pick-true _ _ h
-
-  packed-take :
-      (taken : List ℕ) (q : Quad) (qs : List Quad) → share (those free (pairsOf n q)) taken ≡ false →
-      packed n free toll taken (q ∷ qs) ≡
-      lowest toll (those free (pairsOf n q)) + packed n free toll (those free (pairsOf n q) ++ taken) qs
-  unfolding packed
-  packed-take taken q qs h = pick-false _ _ h
-
   -- the list has a free pair of the quad
   pub record Meets (q : Quad) : Type 0 where
     pub pair : ℕ
@@ -49,9 +42,11 @@ module _ (n : ℕ) (free : ℕ → Bool) (toll : ℕ → ℕ) (xs : List ℕ) wh
 
   pub packed-bounded :
       (taken : List ℕ) (qs : List Quad) → MeetsAll qs → packed n free toll taken qs ≤ price toll (those (left taken) xs)
-  packed-bounded taken [] meets = unfold packed in omega arith
+  unfolding packed
+  packed-bounded taken [] meets = omega arith
   packed-bounded taken (q ∷ qs) meets =
-      go (packed-bounded taken qs rest) (packed-bounded (mine ++ taken) qs rest) (which (share mine taken))
+      pick-most (share mine taken) _ _ _ (λ s. packed-bounded taken qs rest)
+      (λ s. le-trans (add-le-add (lowest-least toll (m .pair) mine (m .of-quad)) (packed-bounded (mine ++ taken) qs rest)) (gap s))
     where
       mine : List ℕ
       mine = those free (pairsOf n q)
@@ -62,19 +57,13 @@ module _ (n : ℕ) (free : ℕ → Bool) (toll : ℕ → ℕ) (xs : List ℕ) wh
       m : Meets q
       m = meets q (List·Memᴰ·head refl)
 
-      go :
-          packed n free toll taken qs ≤ price toll (those (left taken) xs) →
-          packed n free toll (mine ++ taken) qs ≤ price toll (those (left (mine ++ taken)) xs) →
-          (share mine taken ≡ true) ⊎ (share mine taken ≡ false) →
-          packed n free toll taken (q ∷ qs) ≤ price toll (those (left taken) xs)
-      go skip take (inl s) = omega (arith, packed-skip taken q qs s)
-      go skip take (inr s) =
-          let gap =
+      gap :
+          share mine taken ≡ false →
+          toll (m .pair) + price toll (those (left (mine ++ taken)) xs) ≤ price toll (those (left taken) xs)
+      gap s =
           price-gap toll (left (mine ++ taken)) (left taken) (left-fewer mine taken) (m .pair) xs (m .of-list)
           (not-off (member-append (m .pair) mine taken ∙ or-left _ (m .of-quad)))
           (not-in (unshared (m .pair) mine taken s (m .of-quad)))
-          in
-          omega (arith, packed-take taken q qs s, lowest-least toll (m .pair) mine (m .of-quad))
 
   -- no quad is without a free pair
   pub meets-unstuck : (qs : List Quad) → MeetsAll qs → stuck n free qs ≡ false
