@@ -1,23 +1,20 @@
 -- With no fixed pair and the greatest budget there is always a repair: toggling every edge leaves the empty graph, and
 -- there are at most 8,128 of them, at 10,000 at most. So number 8 cannot occur there. Assumes nothing.
-use mathlib.Core.Path.{_≡_, refl, sym, ap, ap₂, _∙_}
-use mathlib.Core.Logic.{_⊎_, inl, inr, _≢_}
+use mathlib.Core.Path.{_≡_, sym, ap, ap₂, _∙_}
+use mathlib.Core.Logic.{_⊎_, inl, inr}
 use mathlib.Core.Bool.{Bool, true, false, not, _&&_}
-use mathlib.Core.List.{List, [], _∷_}
-use mathlib.Core.Option.{Option, none, some}
-use Prim.Native.Nat.{ℕ, _*_, _/_, _%_, _≤_, _<_, min, max}
-use native.Mathlib.Nat.{mul-le-mul-left}
+use mathlib.Core.List.{List}
+use mathlib.Core.Option.{none}
+use Prim.Native.Nat.{ℕ, _*_, _/_, _%_, _≤_, min, max}
 use native.Mathlib.Omega.{arith}
 use lib.ListN.{length}
-use lib.Dec.{ltb, eqb}
+use lib.Dec.{ltb}
 use borrow.Author.Tests.{ltb-true, ltb-false, ne-eqb}
-use Rattle.bits.specs.Choice.{count}
-use Rattle.bits.proofs.Truth.{never, which, fails, and-in, and-left, and-right, not-in}
+use Rattle.bits.proofs.Truth.{never, which, fails, and-in, and-left, not-in}
 use Rattle.graph.specs.Graph.{IsGraph}
 use Rattle.graph.specs.Price.{fixed}
-use Rattle.graph.specs.Quad.{isQuad, Clean}
 use Rattle.graph.proofs.Facts.{quad-induced}
-use Rattle.repair.specs.Pair.{pairOf, isPair, changeable, member, all}
+use Rattle.repair.specs.Pair.{pairOf, isPair, changeable, member}
 use Rattle.repair.specs.Better.{price}
 use Rattle.repair.specs.Repair.{toggled, Repair}
 use Rattle.repair.specs.Packing.{those}

@@ -1,19 +1,19 @@
 -- B1: the packing bound never exceeds the price of any repair; with marks, of any set of free pairs that cleans the
 -- graph. Every quad has a pair of such a set, since a quad none of whose pairs is toggled stays. Assumes nothing.
-use mathlib.Core.Path.{_≡_, refl, sym, ap, _∙_}
+use mathlib.Core.Path.{_≡_, _∙_}
 use mathlib.Core.Logic.{_⊎_, inl, inr}
 use mathlib.Core.Bool.{Bool, true, false}
-use mathlib.Core.List.{List, [], _∷_}
+use mathlib.Core.List.{List}
 use Prim.Native.Nat.{ℕ, _≤_}
 use Rattle.bits.proofs.Truth.{never, which}
 use Rattle.graph.specs.declared.Quad.{Quad}
 use Rattle.graph.specs.Quad.{isQuad, quads, Clean}
-use Rattle.graph.proofs.Facts.{Induced, quad-induced, induced-quad}
+use Rattle.graph.proofs.Facts.{quad-induced, induced-quad}
 use Rattle.graph.proofs.Quads.{Named, listed-named}
 use Rattle.repair.specs.Pair.{pairOf, changeable, member, all}
 use Rattle.repair.specs.Better.{price}
 use Rattle.repair.specs.Repair.{toggled, Repair}
-use Rattle.repair.specs.Packing.{pairsOf, those, share, packing}
+use Rattle.repair.specs.Packing.{pairsOf, share, packing}
 use Rattle.repair.proofs.Sets.{member-here, member-there, all-at, those-in, share-out, unshared}
 use Rattle.repair.proofs.Packs.{Meets, packing-bounded}
 use Rattle.repair.proofs.Toggling.{toggled-stays}

@@ -4,7 +4,7 @@ use mathlib.Core.Logic.{_⊎_, inl, inr}
 use mathlib.Core.Bool.{Bool, true, false}
 use Prim.Native.Nat.{ℕ, zero, suc, _+_, _≤_, _<_}
 use native.Mathlib.Omega.{arith}
-use Rattle.bits.specs.Choice.{pick, count}
+use Rattle.bits.specs.Choice.{count}
 use Rattle.bits.proofs.Truth.{never, which, pick-true, pick-false}
 use Rattle.graph.proofs.Listing.{below-suc}
 

@@ -19,3 +19,4 @@ pub mod Listed
 pub mod Pairs
 pub mod Always
 pub mod Tolls
+pub mod Room

@@ -1,7 +1,7 @@
 -- The packing bound against any list that shares a free pair with every quad: the taken quads' free pairs are disjoint,
 -- and each taken quad adds at most the price of the number that it shares with the list. Assumes nothing.
-use mathlib.Core.Path.{_≡_, refl, sym, ap, _∙_}
-use mathlib.Core.Bool.{Bool, true, false, not, _||_}
+use mathlib.Core.Path.{_≡_, refl, sym, _∙_}
+use mathlib.Core.Bool.{Bool, true, false, not}
 use mathlib.Core.List.{List, [], _∷_, _++_, List·Memᴰ, List·Memᴰ·head, List·Memᴰ·tail}
 use Prim.Native.Nat.{ℕ, _+_, _≤_}
 use native.Mathlib.Nat.{le-trans, add-le-add}
@@ -12,7 +12,7 @@ use Rattle.bits.proofs.Truth.{or-off, or-off-right, or-left, not-in, not-off, p
 use Rattle.graph.specs.declared.Quad.{Quad}
 use Rattle.repair.specs.Pair.{member}
 use Rattle.repair.specs.Better.{price}
-use Rattle.repair.specs.Packing.{pairsOf, those, share, lowest, empty, stuck, packed, packing}
+use Rattle.repair.specs.Packing.{pairsOf, those, share, empty, stuck, packed, packing}
 use Rattle.repair.proofs.Sets.{member-none, member-append, unshared}
 use Rattle.repair.proofs.Prices.{price-gap, price-part, lowest-least}
 

@@ -1,6 +1,6 @@
 -- How many pairs n vertices have: twice their number and n is n x n, so at most 8,128 for 128 vertices. Counted row by row:
 -- row i has n - 1 - i. Assumes nothing.
-use mathlib.Core.Path.{_≡_, refl, sym, ap, ap₂, _∙_}
+use mathlib.Core.Path.{_≡_, refl, ap, ap₂, _∙_}
 use mathlib.Core.Logic.{_⊎_, inl, inr}
 use mathlib.Core.Bool.{Bool, true, false, _&&_}
 use Prim.Native.Nat.{ℕ, zero, suc, _+_, _*_, _-_, _/_, _%_, _≤_, _<_}
@@ -20,7 +20,7 @@ use native.Mathlib.Omega.{arith}
 use lib.Dec.{ltb}
 use borrow.Author.Tests.{ltb-true, ltb-false, lt-ltb}
 use Rattle.bits.specs.Choice.{pick, count}
-use Rattle.bits.proofs.Truth.{which, and-in, and-right, same}
+use Rattle.bits.proofs.Truth.{which}
 use Rattle.repair.specs.Pair.{isPair}
 use Rattle.repair.proofs.Counts.{count-more, count-same}
 

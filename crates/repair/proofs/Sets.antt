@@ -1,33 +1,16 @@
 -- Lists read as sets: what is a member of a list made of others, and what holds of every member. Assumes nothing.
-use mathlib.Core.Path.{_≡_, refl, sym, ap, ap₂, _∙_}
+use mathlib.Core.Path.{_≡_, refl, sym, ap, _∙_}
 use mathlib.Core.Logic.{_⊎_, inl, inr, ⊎-elim}
-use mathlib.Core.Bool.{Bool, true, false, not, _&&_, _||_}
+use mathlib.Core.Bool.{Bool, true, false, _||_}
 use mathlib.Core.List.{List, [], _∷_, _++_}
-use Prim.Native.Nat.{ℕ, zero, suc, _+_, _≤_, _<_}
-use native.Mathlib.Omega.{arith}
-use lib.Dec.{ltb, eqb}
-use borrow.Author.Tests.{ltb-true, eqb-true, lt-ltb, eq-eqb, ne-eqb}
+use Prim.Native.Nat.{ℕ}
+use lib.Dec.{eqb}
+use borrow.Author.Tests.{eqb-true, eq-eqb}
 use Rattle.bits.specs.Choice.{pick}
-use Rattle.bits.proofs.Truth.{
-  never,
-  which,
-  same,
-  fails,
-  and-in,
-  and-left,
-  and-right,
-  or-left,
-  or-right,
-  or-out,
-  or-off,
-  or-off-left,
-  or-off-right,
-  pick-true,
-  pick-false,
-}
+use Rattle.bits.proofs.Truth.{never, which, fails, and-in, and-left, and-right, or-left, or-right, or-out}
 use Rattle.graph.specs.Each.{only}
-use Rattle.repair.specs.Pair.{member, all, ascending}
-use Rattle.repair.specs.Packing.{those, share, empty}
+use Rattle.repair.specs.Pair.{member, all}
+use Rattle.repair.specs.Packing.{those, share}
 
 pub member-here : (x : ℕ) (xs : List ℕ) → member x (x ∷ xs) ≡ true
 unfolding member

@@ -6,6 +6,7 @@ use mathlib.Core.Bool.{Bool, true, false, not, _||_}
 use mathlib.Core.List.{List, [], _∷_}
 use Prim.Native.Nat.{ℕ, _+_, _≤_, _<_}
 use native.Mathlib.Omega.{arith}
+use lib.ListN.{length}
 use lib.Dec.{eqb}
 use borrow.Author.Tests.{not-true}
 use Rattle.bits.proofs.Truth.{never, which, same, fails, not-in, not-off, or-left, or-right, or-out, or-off-right}
@@ -66,6 +67,16 @@ thinned (x ∷ xs) (y ∷ ys) up ua sub =
         (x ≡ y) ⊎ (member x ys ≡ true) → Thinned (x ∷ xs) (y ∷ ys)
     go same on (inl e) = rw (← e) (keep (same (tail e)))
     go same on (inr m) = skip (on (whole (ascending-head y ys ua x m)))
+
+thinned-shorter : {p a : List ℕ} → Thinned p a → length p ≤ length a
+thinned-shorter none = omega arith
+thinned-shorter (keep r) = omega (arith, thinned-shorter r)
+thinned-shorter (skip r) = omega (arith, thinned-shorter r)
+
+-- a subset has no more numbers
+pub subset-shorter :
+    (p a : List ℕ) → ascending p ≡ true → ascending a ≡ true → Subset p a → length p ≤ length a
+subset-shorter p a up ua sub = thinned-shorter (thinned p a up ua sub)
 
 module _ (toll : ℕ → ℕ) where
   -- what is left out is what the first list lacks

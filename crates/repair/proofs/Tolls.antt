@@ -1,17 +1,16 @@
 -- Prices that number 6 lets pass: a pair that may be changed costs 1 to 10,000. Assumes nothing.
 use mathlib.Core.Path.{_≡_, refl, sym, ap, _∙_}
 use mathlib.Core.Logic.{_⊎_, inl, inr}
-use mathlib.Core.Bool.{Bool, true, false, not, _&&_, _||_}
+use mathlib.Core.Bool.{Bool, true, false, _&&_}
 use mathlib.Core.List.{List}
 use Prim.Native.Nat.{ℕ, _+_, _*_, _/_, _%_, _≤_, _<_}
 use native.Mathlib.Nat.{div-add-mod', div-lt-iff-lt-mul, mod-lt, eq-zero-or-pos, zero-mul}
 use native.Mathlib.Omega.{arith}
 use lib.ListN.{getD}
 use lib.Dec.{ltb, leb, eqb}
-use borrow.Author.Tests.{ltb-true, leb-true, eqb-true, ne-eqb, not-true}
+use borrow.Author.Tests.{ltb-true, leb-true, ne-eqb, not-true}
 use Rattle.bits.specs.Choice.{pick}
-use Rattle.bits.proofs.Truth.{never, which, and-left, and-right, or-out, pick-false}
-use Rattle.graph.specs.declared.Finding.{Finding}
+use Rattle.bits.proofs.Truth.{never, and-left, and-right, or-out, pick-false}
 use Rattle.graph.specs.declared.Finding.the-variants.{Fine, Fault}
 use Rattle.graph.specs.Price.{fixed, priced, priceEntry, priceEntries}
 use Rattle.graph.proofs.Leading.{fault-not-fine}
