@@ -22,12 +22,12 @@ use Rattle.repair.specs.Repair.{toggled}
 use Rattle.repair.specs.Packing.{those, pairsOf}
 use Rattle.repair.specs.Tree.{Node, isClear, waysOf, order, present, free, mark, add, tree, pruned}
 use Rattle.repair.proofs.Orders.{cheaper-better, better-no-dearer, better-transitive, better-total}
-use Rattle.repair.proofs.Sets.{member-none, member-here, member-there, member-out, all-at, all-in, those-out}
+use Rattle.repair.proofs.Sets.{member-none, member-here, member-there, member-out, all-at, all-in, those-out, lacks}
 use Rattle.repair.proofs.Counts.{count-fewer, count-lost}
 use Rattle.repair.proofs.Numbers.{changeable-below}
 use Rattle.repair.proofs.Inserts.{insert-price}
 use Rattle.repair.proofs.Toggling.{toggled-graph, toggled-parts}
-use Rattle.repair.proofs.Supersets.{lacks, parts-price, superset-unbetter, lacks-parts}
+use Rattle.repair.proofs.Supersets.{parts-price, superset-unbetter, lacks-parts}
 use Rattle.repair.proofs.Bound.{clean-includes, bound-free}
 use Rattle.repair.proofs.Nodes.{
   Fit,
@@ -81,7 +81,7 @@ module _ (n : ℕ) (e : ℕ → ℕ → Bool) (toll : ℕ → ℕ) where
       omega (
         arith,
         ltb-true,
-        bound-free n (present n e s) (rest s a) (free n toll s) toll (all-in (free n toll s) (rest s a) (rest-free s a b)) (rest-cleans s a b),
+        bound-free n (present n e s) (rest s a) (free n toll s) (all-in (free n toll s) (rest s a) (rest-free s a b)) (rest-cleans s a b) toll,
         parts-price toll (s .path) a (fit .sorted) (b .repair .sorted) (b .has),
       )
 
