@@ -11,7 +11,7 @@ use Rattle.bits.proofs.Truth.{or-off, or-left, not-in, not-off, pick-false}
 use Rattle.graph.specs.declared.Quad.{Quad}
 use Rattle.repair.specs.Pair.{member}
 use Rattle.repair.specs.Better.{price}
-use Rattle.repair.specs.Packing.{pairsOf, those, share, empty, stuck, packed, packing}
+use Rattle.repair.specs.Packing.{pairsOf, those, share, lowest, empty, stuck, packed, packing}
 use Rattle.repair.proofs.Sets.{member-none, member-append, unshared, lacks, lacks-fewer}
 use Rattle.repair.proofs.Prices.{price-gap, price-part, lowest-least}
 
@@ -42,6 +42,20 @@ module _ (n : ℕ) (free : ℕ → Bool) (xs : List ℕ) where
       has : (x : ℕ) (ys : List ℕ) → member x ys ≡ true → empty ys ≡ false
       has x [] m = absurd (member-none x m)
       has x (y ∷ ys) m = unfold empty in refl
+
+-- nothing is shared with nothing
+share-none : (xs : List ℕ) → share xs [] ≡ false
+unfolding share member
+share-none [] = refl
+share-none (x ∷ xs) = share-none xs
+
+-- "add the lowest price of its free pairs": one quad with a free pair has this bound
+pub packing-one :
+    (n : ℕ) (free : ℕ → Bool) (toll : ℕ → ℕ) (q : Quad) → empty (those free (pairsOf n q)) ≡ false →
+    packing n free toll (q ∷ []) ≡ lowest toll (those free (pairsOf n q))
+unfolding packing packed stuck
+packing-one n free toll q some =
+    pick-false _ _ (or-off some refl) ∙ pick-false _ _ (share-none (those free (pairsOf n q))) ∙ omega arith
 
 module _ (n : ℕ) (free : ℕ → Bool) (toll : ℕ → ℕ) (xs : List ℕ) where
   pub packed-bounded :
