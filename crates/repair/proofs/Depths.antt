@@ -1,19 +1,19 @@
 -- The pairs that may be changed, listed: every one is among them, and the lowest of their prices is at least 1 and at most
 -- each. Assumes nothing.
-use mathlib.Core.Path.{_≡_, refl, sym, ap, _∙_}
+use mathlib.Core.Path.{_≡_, refl, ap, _∙_}
 use mathlib.Core.Logic.{_⊎_, inl, inr}
-use mathlib.Core.Bool.{Bool, true, false, _||_}
+use mathlib.Core.Bool.{true, false, _||_}
 use mathlib.Core.List.{List, [], _∷_, _++_}
-use Prim.Native.Nat.{ℕ, zero, suc, _+_, _*_, _/_, _≤_, _<_, min}
+use Prim.Native.Nat.{ℕ, zero, suc, _*_, _≤_, _<_}
 use native.Mathlib.Omega.{arith}
-use Rattle.bits.proofs.Truth.{never, or-left, or-right, pick-true, pick-false}
+use Rattle.bits.proofs.Truth.{never, or-left, or-right}
 use Rattle.graph.specs.Each.{each}
 use Rattle.graph.proofs.Listing.{below-suc}
 use Rattle.repair.specs.Pair.{changeable, member}
-use Rattle.repair.specs.Packing.{those, lowest, empty}
-use Rattle.repair.specs.Depth.{numbers, changeables, depth}
-use Rattle.repair.proofs.Sets.{member-none, member-here, member-there, member-append, those-in, those-out}
-use Rattle.repair.proofs.Prices.{lowest-least, lowest-more}
+use Rattle.repair.specs.Packing.{lowest, empty}
+use Rattle.repair.specs.Depth.{numbers, changeables}
+use Rattle.repair.proofs.Sets.{member-here, member-there, member-append, those-in, those-out}
+use Rattle.repair.proofs.Prices.{lowest-more}
 use Rattle.repair.proofs.Numbers.{changeable-below}
 
 pub numbers-more : (m : ℕ) → numbers (suc m) ≡ numbers m ++ m ∷ []

@@ -14,3 +14,9 @@ pub mod Nodes
 pub mod Instance
 pub mod Depths
 pub mod Promises
+pub mod Figures
+pub mod Listed
+pub mod Pairs
+pub mod Always
+pub mod Tolls
+pub mod Room

@@ -1,27 +1,28 @@
 -- What is promised of both engines' searches: the cheapest repair within k, or none exactly if none exists; pruning keeps
 -- the same and never adds a step; the size of the tree; the step limit. Each is a promise of search trees, for document
 -- 01's. Assumes nothing.
-use mathlib.Core.Path.{_≡_, refl, sym, ap, _∙_, subst}
+use mathlib.Core.Path.{_≡_, refl, subst}
 use mathlib.Core.Logic.{_⊎_, inl, inr, _↔_}
 use mathlib.Core.Bool.{Bool, true, false}
 use mathlib.Core.List.{List, [], _∷_}
-use mathlib.Core.Option.{Option, none, some}
-use Prim.Native.Nat.{ℕ, zero, suc, _+_, _*_, _/_, _≤_, _<_}
+use mathlib.Core.Option.{Option, none}
+use Prim.Native.Nat.{ℕ, suc, _*_, _/_, _≤_, _<_}
+use native.Mathlib.Nat.{le-trans}
 use native.Mathlib.Omega.{arith}
 use lib.ListN.{length}
 use Rattle.bits.specs.Choice.{count}
 use Rattle.bits.proofs.Truth.{never, which, fails, pick-true, pick-false}
 use Rattle.graph.specs.Graph.{IsGraph}
-use Rattle.graph.specs.declared.Quad.{Quad}
 use Rattle.graph.specs.declared.First.{First}
 use Rattle.graph.specs.declared.First.the-variants.{At, Clear}
 use Rattle.graph.specs.Quad.{quads, first}
-use Rattle.walk.specs.Walk.{plain, geo}
+use Rattle.walk.specs.Walk.{walk, begin, plain, geo}
 use Rattle.walk.specs.Run.{stopped, whole}
 use Rattle.walk.specs.Best.{IsBest, bestOf, limitOf}
 use Rattle.walk.proofs.Laws.{Laws, NotBetter, Safe}
 use Rattle.walk.proofs.Single.{keeping, best-only, best-same}
 use Rattle.walk.proofs.Promises.{
+  fuel-enough,
   kept-best,
   cut-saves-plain,
   steps-geo,
@@ -30,8 +31,8 @@ use Rattle.walk.proofs.Promises.{
   run-whole,
   run-stopped,
 }
-use Rattle.repair.specs.Better.{price, better}
-use Rattle.repair.specs.Pair.{changeable, member}
+use Rattle.repair.specs.Better.{price}
+use Rattle.repair.specs.Pair.{member}
 use Rattle.repair.specs.Repair.{Repair}
 use Rattle.repair.specs.Packing.{pairsOf, lowest, empty}
 use Rattle.repair.specs.Tree.{Node, root, waysOf, order, present, free, tree, pruned, engine, walked, searched}
@@ -163,3 +164,18 @@ module _ (n : ℕ) (e : ℕ → ℕ → Bool) (toll : ℕ → ℕ) (graph : IsGr
       unfolding walked searched
       search-stopped =
           run-stopped (tree n e toll) (bestOf (order toll) k) (engine n e toll prune) most (suc (n * n)) root
+
+      -- W4: a large enough limit is never reached
+      pub search-large :
+          geo 6 (depth n toll k) ≤ most → searched n e toll prune k most ≡ whole (walked n e toll prune k)
+      search-large large = search-whole (le-trans (steps-bounded prune) large)
+
+    -- any fuel above the number of pairs that may be changed walks the same tree
+    pub walked-fuel :
+        (prune : Bool) (f : ℕ) → count (free n toll root) (n * n) < f →
+        walk (tree n e toll) (bestOf (order toll) k) (engine n e toll prune) f root (begin (bestOf (order toll) k)) ≡
+        walked n e toll prune k
+    unfolding walked
+    walked-fuel prune f enough =
+        fuel-enough lawful (keeping (ordered toll) k) root (fit-root n e toll) (unfold limitOf in start k)
+        (engine n e toll prune) f (suc (n * n)) (begin (bestOf (order toll) k)) enough fuel
