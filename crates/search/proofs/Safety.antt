@@ -17,34 +17,35 @@ use Rattle.graph.specs.Graph.{IsGraph, wordEdge, flipped}
 use Rattle.graph.specs.Rows.{Toggled}
 use Rattle.graph.proofs.Flipping.{flipped-graph}
 use Rattle.repair.proofs.Counts.{count-fewer, count-lost}
-use Rattle.search.specs.Table.{Place, openPairs}
+use Rattle.search.specs.Table.{tollAt, freeAt, Place, numberAt, openPairs}
 use Rattle.search.specs.Memory.{pairs, budget, Safe}
+use Rattle.search.proofs.Placing.{index, number-below}
+use Rattle.search.proofs.States.{toll-here, free-here}
 
-module _ (cost : List ℕ) (p : ℕ) (table : length cost ≡ 16384) where
+module _ (n : ℕ) (cost : List ℕ) (p : ℕ) (table : length cost ≡ 16384) (fits : p < 16384) where
   -- what costs less than 65,535 once p is marked did before
-  marked-other : (i : ℕ) → getD (set cost p fixed) i 0 < fixed → p < 16384 → i ≢ p
-  marked-other i h l e =
-      let same = getD-set-same cost p fixed 0 (omega arith) in
-      let free : getD (set cost p fixed) p 0 < fixed = rw e at h in
-      omega arith
-
-  marked-before : (i : ℕ) → p < 16384 → getD (set cost p fixed) i 0 < fixed → getD cost i 0 < fixed
-  marked-before i l h = rw (getD-set-other cost p i fixed 0 (marked-other i h l)) at h
+  marked-before : (i : ℕ) → getD (set cost p fixed) i 0 < fixed → getD cost i 0 < fixed
+  marked-before i h = go (equal i p)
+    where
+      go : (i ≡ p) ⊎ (i ≢ p) → getD cost i 0 < fixed
+      go (inl e) = absurd (omega (arith, ap (λ j. getD (set cost p fixed) j 0) e, getD-set-same cost p fixed 0 (omega arith)))
+      go (inr e) = omega (arith, getD-set-other cost p i fixed 0 e)
 
   -- fewer pairs are free once one is marked
-  pub open-less : p < 16384 → openPairs (set cost p fixed) ≤ openPairs cost
-  unfolding openPairs
-  open-less l =
-      count-fewer (λ i. ltb (getD (set cost p fixed) i 0) fixed) (λ i. ltb (getD cost i 0) fixed)
-      (λ i h. lt-ltb (getD cost i 0) fixed (marked-before i l (ltb-true (getD (set cost p fixed) i 0) fixed h))) 16384
+  fewer : (x : ℕ) → freeAt n (set cost p fixed) x ≡ true → freeAt n cost x ≡ true
+  unfolding freeAt tollAt
+  fewer x h = lt-ltb (getD cost (index n x) 0) fixed (marked-before (index n x) (ltb-true (getD (set cost p fixed) (index n x) 0) fixed h))
 
-  pub open-falls : p < 16384 → getD cost p 0 < fixed → openPairs (set cost p fixed) < openPairs cost
+  pub open-less : openPairs n (set cost p fixed) ≤ openPairs n cost
   unfolding openPairs
-  open-falls l h =
-      count-lost (λ i. ltb (getD (set cost p fixed) i 0) fixed) (λ i. ltb (getD cost i 0) fixed)
-      (λ i h. lt-ltb (getD cost i 0) fixed (marked-before i l (ltb-true (getD (set cost p fixed) i 0) fixed h))) p 16384 l
-      (le-ltb (getD (set cost p fixed) p 0) fixed (omega (arith, getD-set-same cost p fixed 0 (omega arith))))
-      (lt-ltb (getD cost p 0) fixed h)
+  open-less = count-fewer (freeAt n (set cost p fixed)) (freeAt n cost) fewer (n * n)
+
+  pub open-falls : n ≤ 128 → Place n p → getD cost p 0 < fixed → openPairs n (set cost p fixed) < openPairs n cost
+  unfolding openPairs
+  open-falls few at h =
+      count-lost (freeAt n (set cost p fixed)) (freeAt n cost) fewer (numberAt n p) (n * n) (number-below n p few at)
+      (free-here n cost p few at (omega arith))
+      (unfold freeAt in lt-ltb (tollAt n cost (numberAt n p)) fixed (omega (arith, toll-here n cost p few at (omega arith))))
 
 -- n vertices have at most 8,128 pairs
 pub pairs-small : (n : ℕ) → n ≤ 128 → pairs n ≤ 8128
@@ -76,17 +77,17 @@ module _ {n : ℕ} {words cost path kept : List ℕ} {count spent : ℕ} (safe :
         shape = safe .shape;
         graph = safe .graph;
         table = length-set cost p fixed ∙ safe .table;
-        placed = λ i fits costs. safe .placed i fits (marked-before cost p (safe .table) i l costs);
+        placed = λ i fits costs. safe .placed i fits (marked-before n cost p (safe .table) l i costs);
         long = safe .long;
         wide = safe .wide;
-        room = omega (arith, safe .room, open-less cost p (safe .table) l);
+        room = omega (arith, safe .room, open-less n cost p (safe .table) l);
         paid = safe .paid;
       }
 
   -- where a pair is free there is room for it
   pub safe-room : (p : ℕ) → p < 16384 → getD cost p 0 < fixed → count < 8128
   safe-room p l costs =
-      omega (arith, safe .room, open-falls cost p (safe .table) l costs, pairs-small n (safe .few))
+      omega (arith, safe .room, open-falls n cost p (safe .table) l (safe .few) (safe .placed p l costs) costs, pairs-small n (safe .few))
 
   pub safe-enter :
       (p : ℕ) (words′ path′ : List ℕ) → p < 16384 → Place n p → getD cost p 0 < fixed → spent + getD cost p 0 ≤ budget →
@@ -98,9 +99,9 @@ module _ {n : ℕ} {words cost path kept : List ℕ} {count spent : ℕ} (safe :
         shape = toggled .shape;
         graph = rw (toggled .edges) (flipped-graph (p / 128) (p % 128) (wordEdge words) n (safe .graph) (omega (arith, at .apart, at .inside)) (at .inside) (omega (arith, at .apart)));
         table = length-set cost p fixed ∙ safe .table;
-        placed = λ i fits h. safe .placed i fits (marked-before cost p (safe .table) i l h);
+        placed = λ i fits h. safe .placed i fits (marked-before n cost p (safe .table) l i h);
         long = lp ∙ safe .long;
         wide = safe .wide;
-        room = omega (arith, safe .room, open-falls cost p (safe .table) l costs);
+        room = omega (arith, safe .room, open-falls n cost p (safe .table) l (safe .few) at costs);
         paid = paid;
       }

@@ -44,11 +44,11 @@ module _ (n : ℕ) (toll : ℕ → ℕ) (s : Node) (w : ℕ) where
 
 module _ (n : ℕ) (cost : List ℕ) (p : ℕ) (few : n ≤ 128) (at : Place n p) (fits : p < length cost) where
   -- the table once p is marked
-  toll-here : tollAt n cost (numberAt n p) ≡ getD cost p 0
+  pub toll-here : tollAt n cost (numberAt n p) ≡ getD cost p 0
   unfolding tollAt
   toll-here = ap (λ i. getD cost i 0) (number-index n p few at)
 
-  free-here : freeAt n (set cost p fixed) (numberAt n p) ≡ false
+  pub free-here : freeAt n (set cost p fixed) (numberAt n p) ≡ false
   unfolding freeAt tollAt
   free-here =
       le-ltb (getD (set cost p fixed) (index n (numberAt n p)) 0) fixed

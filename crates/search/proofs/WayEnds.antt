@@ -61,8 +61,8 @@ module _
       pub price-fits : spent + price ≤ 81280000
       price-fits = omega (arith, is .affordable, ready .sound .bounded, marked .told)
 
-      pub fewer-open : openPairs cost′ < openPairs cost
-      fewer-open = rw (marked .stored) (open-falls cost p (ready .safe .table) fits (is .costs))
+      pub fewer-open : openPairs n cost′ < openPairs n cost
+      fewer-open = rw (marked .stored) (open-falls n cost p (ready .safe .table) fits (ready .safe .few) place (is .costs))
 
       pub ready-node :
           (words₁ path₁ : List ℕ) → Toggled (p / 128) (p % 128) words words₁ → length path₁ ≡ length path →

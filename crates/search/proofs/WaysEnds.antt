@@ -28,7 +28,7 @@ pub record Trying
   pub same-words : words ≡ words₀
   pub same-path : take count path ≡ take count path₀
   pub apart : Apart places cost₀ cost
-  pub fewer : openPairs cost ≤ openPairs cost₀
+  pub fewer : openPairs n cost ≤ openPairs n cost₀
   pub reached :
       (e : ℕ → ℕ → Bool) (toll : ℕ → ℕ) (k f : ℕ) (s : Node) (o : problem.Tally (Option (List ℕ))) →
       At n e toll s words₀ cost₀ path₀ count spent → left n toll s ≤ f → Same toll k most o t₀ kept₀ →
@@ -75,7 +75,7 @@ module _
               same-path = did .back .path-back ∙ so .same-path;
               apart = rw (did .back .cost-back) (apart-set places cost₀ cost p fixed listed (so .apart));
               fewer =
-                  rw (did .back .cost-back) (omega (arith, so .fewer, open-less cost p (so .ready .safe .table) fits));
+                  rw (did .back .cost-back) (omega (arith, so .fewer, open-less n cost p (so .ready .safe .table) fits));
               reached = λ e toll k f s o at fuel same.
                   reached-more n e toll prune k most f s o words cost path kept count spent places t w words′ cost′ path′ kept′ r
                   (so .ready .safe .few) (six .each w more .1) (omega (arith, so .ready .safe .table, six .each w more .0)) (omega (arith, six .many))

@@ -36,7 +36,7 @@ pub record Safe (n : ℕ) (words cost path kept : List ℕ) (count spent : ℕ) 
   pub placed : (p : ℕ) → p < 16384 → getD cost p 0 < fixed → Place n p
   pub long : length path ≡ 8128
   pub wide : length kept ≡ 8128
-  pub room : count + openPairs cost ≤ pairs n
+  pub room : count + openPairs n cost ≤ pairs n
   pub paid : spent ≤ budget
 
 -- what every tally is

@@ -27,8 +27,8 @@ unfoldable pub numberAt : ℕ → ℕ → ℕ
 numberAt n p = p / 128 * n + p % 128
 
 -- "falling number is the count of free pairs"
-unfoldable pub openPairs : List ℕ → ℕ
-openPairs cost = count (λ p. ltb (getD cost p 0) fixed) 16384
+unfoldable pub openPairs : ℕ → List ℕ → ℕ
+openPairs n cost = count (freeAt n cost) (n * n)
 
 -- "Marks made at a node": the place p is marked, and what it cost is told
 pub record Marked (p : ℕ) (before after : List ℕ) (r : ℕ) : Type 0 where

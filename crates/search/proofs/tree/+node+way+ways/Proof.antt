@@ -45,13 +45,13 @@ use Rattle.search.proofs.tree.+node+way+ways.{statement}
 use Rattle.search.proofs.tree.+node+way+ways.Tie.{close}
 
 abbrev μ-node : Measures 4 node-kinds.ps ℕ
-μ-node κs a = 3 * openPairs (a .1 .0 .now) + 2
+μ-node κs a = 3 * openPairs (a .1 .1 .1 .1 .0) (a .1 .0 .now) + 2
 
 abbrev μ-way : Measures 4 way-kinds.ps ℕ
-μ-way κs a = 3 * openPairs (a .1 .0 .now)
+μ-way κs a = 3 * openPairs (a .1 .1 .1 .1 .0) (a .1 .0 .now)
 
 abbrev μ-ways : Measures 4 ways-kinds.ps ℕ
-μ-ways κs a = 3 * openPairs (a .1 .0 .now) + 1
+μ-ways κs a = 3 * openPairs (a .1 .1 .1 .1 .0) (a .1 .0 .now) + 1
 
 abbrev node-at : ℕ → In 4 node-kinds.ps
 node-at t = and 4 node-kinds.ps (is 4 node-kinds.ps μ-node t) node.Pre
