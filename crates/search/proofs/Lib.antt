@@ -16,3 +16,5 @@ pub mod NodeEnds
 pub mod WayEnds
 pub mod WaysEnds
 pub mod Refusing
+pub mod Starting
+pub mod Ending
