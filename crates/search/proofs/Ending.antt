@@ -11,20 +11,22 @@ use lib.Dec.{ltb, eqb}
 use lib.ListN.{length, take, drop}
 use Rattle.bits.specs.Choice.{pick}
 use Rattle.bits.proofs.Truth.{below, pick-true, pick-false}
-use Rattle.graph.specs.Graph.{IsGraph}
+use Rattle.graph.specs.declared.Finding.the-variants.{Fine, Fault}
+use Rattle.graph.specs.Refusal.{firstOf}
+use Rattle.graph.specs.Graph.{IsGraph, edge}
 use Rattle.walk.specs.Problem as problem
 use Rattle.walk.specs.Best.{IsBest, limitOf}
 use Rattle.walk.specs.Run.{stopped, whole}
 use Rattle.repair.specs.Better.{price}
-use Rattle.repair.specs.Repair.{Repair}
+use Rattle.repair.specs.Repair.{Repair, tollOf}
 use Rattle.repair.specs.Tree.{order, walked, searched}
 use Rattle.repair.proofs.Instance.{Positive}
 use Rattle.repair.proofs.Promises.{keeps-best, search-over, search-whole}
 use Rattle.search.specs.declared.Tally.{Tally}
 use Rattle.search.specs.declared.Answer.{Answer}
-use Rattle.search.specs.declared.Answer.the-variants.{Stopped, Nothing, Repaired}
+use Rattle.search.specs.declared.Answer.the-variants.{Refused, Stopped, Nothing, Repaired}
 use Rattle.search.specs.Memory.{Holds, Same, Follows}
-use Rattle.search.specs.Answer.{Meant, Over, None, Best, nodes}
+use Rattle.search.specs.Answer.{checks, refusal, Meant, nodes, Promise}
 use Rattle.search.specs.Ends.{answerOf, writtenOf, Told}
 
 -- the answer of a tally, case by case
@@ -58,6 +60,17 @@ module _ (most : ℕ) (t : Tally) (kept list : List ℕ) where
           answer = unfold answerOf in sym (pick-false _ _ on ∙ pick-false _ _ (ne-eqb (t .kept) 0 h));
           written = unfold writtenOf in w ∙ sym (pick-false _ _ on);
         }
+
+  -- no answer of the search is a refusal before it
+  pub told-searched : (r : Answer) (after : List ℕ) → Told most t kept list r after → refusal r ≡ Fine
+  told-searched r after told = rw (told .answer) (unfold answerOf in go (ltb most (t .steps)) (eqb (t .kept) 0))
+    where
+      go :
+          (a b : Bool) →
+          refusal (pick a (Stopped most) (pick b (Nothing (t .steps)) (Repaired (t .limit) (t .kept - 1) (t .steps)))) ≡ Fine
+      go true b = refl
+      go false true = refl
+      go false false = refl
 
 module _
     (prune : Bool) (n : ℕ) (e : ℕ → ℕ → Bool) (toll : ℕ → ℕ) (k most : ℕ) (kept list : List ℕ) (t : Tally)
@@ -128,3 +141,20 @@ module _
             Meant prune n e toll k most list (answerOf most t) (writtenOf most t kept list)
         go (inl h) = meant-over h
         go (inr h) = meant-whole h
+
+-- an engine's answer over the rows of the bytes is the answer that is promised of the bytes
+pub promised :
+    (prune : Bool) (n : ℕ) (g ps : List ℕ) (k most : ℕ) (list : List ℕ) (e : ℕ → ℕ → Bool) (r : Answer) (after : List ℕ) →
+    e ≡ edge n g → firstOf (checks n g ps k list) ≡ Fine → refusal r ≡ Fine →
+    Meant prune n e (tollOf ps) k most list r after → Promise prune n g ps k most list r after
+promised prune n g ps k most list e r after same passed searched is =
+    record {
+      refused = searched ∙ sym passed;
+      meant = subst (λ d. Meant prune n d (tollOf ps) k most list r after) same is;
+    }
+
+-- a refusal leaves the list
+pub refused :
+    (prune : Bool) (n : ℕ) (g ps : List ℕ) (k most : ℕ) (list : List ℕ) (number i j : ℕ) →
+    Fault number i j ≡ firstOf (checks n g ps k list) → Promise prune n g ps k most list (Refused number i j) list
+refused prune n g ps k most list number i j h = record { refused = h; meant = refl }

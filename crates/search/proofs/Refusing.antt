@@ -40,10 +40,15 @@ module _ (k wanted : ℕ) (list : List ℕ) where
       sym
       (firstOf-next (tooLarge k) _ (within h) ∙ firstOf-here (row 10 (ltb (length list) wanted)) [] (row-holds 10 (lt-ltb (length list) wanted l)))
 
+  roomy : wanted ≤ length list → tooShort list wanted ≡ Fine
+  unfolding tooShort
+  roomy l = row-passes 10 (le-ltb (length list) wanted l)
+
   pub limits-passed : k ≤ budget → wanted ≤ length list → Fine ≡ firstOf (tooLarge k ∷ tooShort list wanted ∷ [])
-  unfolding tooShort firstOf
   limits-passed h l =
-      sym (firstOf-next (tooLarge k) _ (within h) ∙ firstOf-next (row 10 (ltb (length list) wanted)) [] (row-passes 10 (le-ltb (length list) wanted l)))
+      sym
+      (firstOf-next (tooLarge k) (tooShort list wanted ∷ []) (within h) ∙ firstOf-next (tooShort list wanted) [] (roomy l) ∙
+      (unfold firstOf in refl))
 
 -- a length as it is to be, or not
 wrong : (xs : List ℕ) (wanted : ℕ) → length xs ≢ wanted → wrongLength xs wanted ≡ Fault 2 0 0
@@ -108,3 +113,11 @@ module _ (n : ℕ) (g ps : List ℕ) (k : ℕ) (list : List ℕ) where
         within-budget = ltb-false budget k (row-fine 7 (ltb budget k) (all 5));
         room = ltb-false (length list) (pairs n) (row-fine 10 (ltb (length list) (pairs n)) (all 6));
       }
+
+-- a finding that is the first of the list, or is passed by
+module _ (x found : Finding) (xs : List Finding) (is : found ≡ x) where
+  pub first-found : {k i j : ℕ} → found ≡ Fault k i j → found ≡ firstOf (x ∷ xs)
+  first-found h = h ∙ sym (firstOf-here x xs (sym is ∙ h))
+
+  pub first-passed : found ≡ Fine → firstOf xs ≡ firstOf (x ∷ xs)
+  first-passed h = sym (firstOf-next x xs (sym is ∙ h))

@@ -22,15 +22,16 @@ use Rattle.walk.specs.Best.{bestOf, limitOf}
 use Rattle.repair.specs.Pair.{isPair, changeable, member}
 use Rattle.repair.specs.Better.{price}
 use Rattle.repair.specs.Repair.{tollOf, toggled}
-use Rattle.repair.specs.Tree.{root, order, present, free}
+use Rattle.repair.specs.Tree.{root, order, present, free, searched}
+use Rattle.repair.proofs.Counts.{count-most}
 use Rattle.repair.proofs.Sets.{member-none}
 use Rattle.repair.proofs.Toggling.{toggled-stays}
 use Rattle.repair.proofs.Pairs.{pairs-counted}
 use Rattle.repair.proofs.Tolls.{tolls-within}
 use Rattle.search.specs.declared.Tally.{Tally}
 use Rattle.search.specs.Table.{tollAt, freeAt, Place, openPairs, Tabled}
-use Rattle.search.specs.Memory.{pairs, budget, Safe, Sound, At, Same}
-use Rattle.search.specs.Steps.{Ready}
+use Rattle.search.specs.Memory.{pairs, budget, Safe, Sound, At, Same, Follows}
+use Rattle.search.specs.Steps.{Ready, NodeLeft}
 use Rattle.search.specs.Ends.{Engaged}
 use Rattle.search.proofs.Placing.{index}
 
@@ -195,3 +196,13 @@ module _
     pub same-root : (most : ℕ) → Same (tollOf ps) k most (begin (bestOf (order (tollOf ps)) k)) (start k) kept
     same-root most =
         record { steps = refl; within = omega arith; limit = unfold limitOf in refl; kept = refl }
+
+    -- the whole tree is walked from there
+    pub followed :
+        (prune : Bool) (most : ℕ) (r : Tally) (words′ cost′ path′ kept′ : List ℕ) →
+        NodeLeft n prune most words cost path kept 0 0 (start k) r words′ cost′ path′ kept′ →
+        Follows (tollOf ps) k most (searched n (rowEdge rows) (tollOf ps) prune k most) r kept′
+    followed prune most r words′ cost′ path′ kept′ did =
+        unfold searched in
+        did .walked (rowEdge rows) (tollOf ps) k (suc (n * n)) root (begin (bestOf (order (tollOf ps)) k)) at-root
+        (omega (arith, count-most (free n (tollOf ps) root) (n * n))) (same-root most)

@@ -4,21 +4,21 @@ ghost use mathlib.Core.Bool.{true, false};
 ghost use mathlib.Core.List.{[], _∷_};
 ghost use Prim.Native.Nat.{ℕ, suc, _*_, _≤_, _<_};
 ghost use lib.ListN.{length};
-ghost use Rattle.graph.specs.declared.Finding.the-variants.{Fault};
+ghost use Rattle.graph.specs.declared.Finding.the-variants.{Fine, Fault};
 ghost use Rattle.graph.specs.Refusal.{firstOf};
 ghost use Rattle.graph.specs.Check.{entries, tooShort};
 ghost use Rattle.graph.specs.Price.{priceEntries};
 ghost use Rattle.graph.specs.Graph.{rowEdge};
 ghost use Rattle.repair.specs.Repair.{tollOf};
 ghost use Rattle.search.specs.Memory.{pairs};
-ghost use Rattle.search.specs.Answer.{tooLarge, checks, Meant, Promise};
+ghost use Rattle.search.specs.Answer.{tooLarge, checks, refusal, Meant, Promise};
 ghost use Rattle.search.specs.Ends.{Told, Engaged};
 use graph::Finding;
 
-pub mod trail;
-pub mod table;
-pub mod stand;
 pub mod leaf;
+pub mod stand;
+pub mod table;
+pub mod trail;
 pub mod tree;
 
 // "One running tally": the steps, the limit, and one more than the number of pairs of the repair that is kept, 0 where none
@@ -150,8 +150,17 @@ fn told(t: Tally, most: u32, kept: &[u16], list: &mut [u16]) -> Answer
 }
 
 // An engine, over the rows of a graph and prices that passed the checks. All its working memory is made here.
-fn engine(rows: [[u64; 2]; 128], prices: &[u16], n: usize, prune: bool, k: u32, most: u32, list: &mut [u16]) -> Answer
+fn engine(
+    rows: [[u64; 2]; 128],
+    prices: &[u16],
+    n: usize,
+    prune: bool,
+    k: u32,
+    most: u32,
+    list: &mut [u16],
+) -> Answer
     requires { ⌜ Engaged n rows (now prices) k (now list) ⌝ }
+    ensures { λ r. ⌜ refusal r ≡ Fine ⌝ }
     ensures { λ r. ⌜ Meant prune n (rowEdge rows) (tollOf (now (prices .entry))) k most (now (list .entry)) r (now (list .exit)) ⌝ }
 {
     let mut words = graph::rows::flat_of(rows);
@@ -163,12 +172,31 @@ fn engine(rows: [[u64; 2]; 128], prices: &[u16], n: usize, prune: bool, k: u32, 
         limit: k,
         kept: 0,
     };
-    let t = tree::node(&mut words, &mut cost, &mut path, &mut kept, n, prune, most as u64, 0, 0, start);
+    let t = tree::node(
+        &mut words,
+        &mut cost,
+        &mut path,
+        &mut kept,
+        n,
+        prune,
+        most as u64,
+        0,
+        0,
+        start,
+    );
     told(t, most, &kept, list)
 }
 
 // Either engine: the checks, and then the search.
-fn either(prune: bool, n: usize, graph: &[u8], prices: &[u16], k: u32, most: u32, list: &mut [u16]) -> Answer
+fn either(
+    prune: bool,
+    n: usize,
+    graph: &[u8],
+    prices: &[u16],
+    k: u32,
+    most: u32,
+    list: &mut [u16],
+) -> Answer
     ensures { λ r. ⌜ Promise prune n (now (graph .entry)) (now (prices .entry)) k most (now (list .entry)) r (now (list .exit)) ⌝ }
 {
     let found = refuse(n, graph, prices, k, list);

@@ -1,3 +1,6 @@
+use mathlib.Core.Path.{_≡_, refl, sym, ap, _∙_}
+use native.Mathlib.Omega.{arith}
+use Rattle.search.proofs.Refusing.{first-found, first-passed}
 use borrow.Author.Needs.{needs}
 use Rattle.search.proofs.contents.Statement.{statement}
 use Rattle.search.proofs.contents.Tie as tie
@@ -17,7 +20,7 @@ enum-told c = search needs
 
 -- src/lib.rt:102:9
 returns : tie.Need-returns
-returns c = ?
+returns c = first-found _ _ _ (c .before .before .entries-of .ensures) (c .enum-told .given .1)
 
 enum-told-2 : tie.Need-enum-told-2
 enum-told-2 c = search needs
@@ -32,7 +35,7 @@ enum-told-3 c = search needs
 
 -- src/lib.rt:110:9
 returns-2 : tie.Need-returns-2
-returns-2 c = ?
+returns-2 c = first-found _ _ _ (c .before .before .price-entries .ensures) (c .enum-told3 .given .1) ∙ first-passed _ _ _ (c .before .before .before .before .before .entries-of .ensures) (c .before .before .before .enum-told2 .given .1)
 
 enum-told-4 : tie.Need-enum-told-4
 enum-told-4 c = search needs
@@ -43,7 +46,7 @@ limits-requires c κs = search needs
 
 -- src/lib.rt:90:1
 returns-3 : tie.Need-returns-3
-returns-3 c = ?
+returns-3 c = c .limits .ensures ∙ first-passed _ _ _ (c .before .before .before .price-entries .ensures) (c .before .enum-told4 .given .1) ∙ first-passed _ _ _ (c .before .before .before .before .before .before .entries-of .ensures) (c .before .before .before .before .enum-told2 .given .1)
 
 pub contents-spec : {M : Type 1} → statement M
 contents-spec =

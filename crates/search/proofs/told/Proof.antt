@@ -1,3 +1,6 @@
+use mathlib.Core.Path.{_≡_, refl, sym, ap, _∙_}
+use native.Mathlib.Omega.{arith}
+use Rattle.search.proofs.Ending.{told-stopped, told-nothing, told-repaired}
 use borrow.Author.Needs.{needs}
 use Rattle.search.proofs.told.Statement.{statement}
 use Rattle.search.proofs.told.Tie as tie
@@ -7,7 +10,7 @@ use Rattle.search.proofs.trail.copy.Reads as copy-reads
 
 -- src/lib.rt:137:9
 returns : tie.Need-returns
-returns c = ?
+returns c = let a = c .before .before .before .before .args in told-stopped (a .most) (a .t) (a .kept .now) (a .list .now) (c .if1 .taken)
 
 -- src/lib.rt:139:17
 cast-steps : tie.Need-cast-steps
@@ -15,7 +18,7 @@ cast-steps c = search needs
 
 -- src/lib.rt:141:9
 returns-2 : tie.Need-returns-2
-returns-2 c = ?
+returns-2 c = let a = c .before .before .before .before .before .before .before .args in told-nothing (a .most) (a .t) (a .kept .now) (a .list .now) (c .before .before .before .if1 .left) (c .if2 .taken)
 
 -- src/lib.rt:143:17
 sub-pairs : tie.Need-sub-pairs
@@ -31,7 +34,9 @@ same-length c = search needs
 
 -- src/lib.rt:132:1
 returns-3 : tie.Need-returns-3
-returns-3 c = ?
+returns-3 c =
+    let a = c .before .before .before .before .before .before .before .before .before .before .before .before .args in
+    told-repaired (a .most) (a .t) (a .kept .now) (a .list .now) (c .before .before .before .before .before .before .before .before .if1 .left) (c .before .before .copy .last .1 .0) (c .before .before .before .before .before .if2 .left) (c .before .before .copy .ensures)
 
 pub told-spec : {M : Type 1} → statement M
 told-spec =
