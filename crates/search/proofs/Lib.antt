@@ -18,3 +18,4 @@ pub mod WaysEnds
 pub mod Refusing
 pub mod Starting
 pub mod Ending
+pub mod Determined
