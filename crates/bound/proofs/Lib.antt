@@ -1,1 +1,4 @@
 pub mod Growth
+pub mod Ahead
+pub mod Folded
+pub mod Six
