@@ -2,3 +2,4 @@ pub mod Growth
 pub mod Ahead
 pub mod Folded
 pub mod Six
+pub mod Tallied

@@ -16,13 +16,13 @@ use Rattle.repair.proofs.Sets.{member-none, member-append, unshared}
 use Rattle.repair.proofs.Prices.{price-gap, price-part, lowest-least}
 
 module _ (n : ℕ) (free : ℕ → Bool) (toll : ℕ → ℕ) (xs : List ℕ) where
-  packed-skip :
+  pub packed-skip :
       (taken : List ℕ) (q : Quad) (qs : List Quad) → share (those free (pairsOf n q)) taken ≡ true →
       packed n free toll taken (q ∷ qs) ≡ packed n free toll taken qs
   unfolding packed
   packed-skip taken q qs h = pick-true _ _ h
 
-  packed-take :
+  pub packed-take :
       (taken : List ℕ) (q : Quad) (qs : List Quad) → share (those free (pairsOf n q)) taken ≡ false →
       packed n free toll taken (q ∷ qs) ≡
       lowest toll (those free (pairsOf n q)) + packed n free toll (those free (pairsOf n q) ++ taken) qs
