@@ -3,3 +3,5 @@ pub mod Ahead
 pub mod Folded
 pub mod Six
 pub mod Tallied
+pub mod Fits
+pub mod Exact
