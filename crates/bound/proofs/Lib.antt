@@ -5,3 +5,4 @@ pub mod Six
 pub mod Tallied
 pub mod Fits
 pub mod Exact
+pub mod Laying
