@@ -6,3 +6,6 @@ pub mod Tallied
 pub mod Fits
 pub mod Exact
 pub mod Laying
+pub mod Turn
+pub mod Touch
+pub mod Lasts
