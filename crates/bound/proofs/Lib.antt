@@ -9,3 +9,4 @@ pub mod Laying
 pub mod Turn
 pub mod Touch
 pub mod Lasts
+pub mod Thirds
