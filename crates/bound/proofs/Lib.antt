@@ -10,3 +10,4 @@ pub mod Turn
 pub mod Touch
 pub mod Lasts
 pub mod Thirds
+pub mod Masks
