@@ -11,3 +11,4 @@ pub mod Touch
 pub mod Lasts
 pub mod Thirds
 pub mod Masks
+pub mod Whole
