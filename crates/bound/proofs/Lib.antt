@@ -12,3 +12,4 @@ pub mod Lasts
 pub mod Thirds
 pub mod Masks
 pub mod Whole
+pub mod PriceLaws
