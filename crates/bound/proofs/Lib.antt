@@ -13,3 +13,5 @@ pub mod Thirds
 pub mod Masks
 pub mod Whole
 pub mod PriceLaws
+pub mod Alike
+pub mod Answers

@@ -1,6 +1,6 @@
 -- Check 6, entry by entry: the rule in each case of the code, and what prices that pass it are. The table of costs grows from
 -- its front, 65,535 behind. Assumes nothing.
-use mathlib.Core.Path.{_≡_, refl, sym, _∙_, ap}
+use mathlib.Core.Path.{_≡_, refl, sym, _∙_, ap, subst}
 use mathlib.Core.Logic.{_⊎_, inl, inr, _≢_}
 use mathlib.Core.Bool.{Bool, true, false, not, _&&_, _||_}
 use mathlib.Core.List.{List}
@@ -171,3 +171,24 @@ module _ (n : ℕ) (ps : List ℕ) where
       at p (inl a) = pick-true (costAt n ps p) fixed (lt-ltb p (m * 128) a)
       at p (inr a) =
           pick-false (costAt n ps p) fixed (le-ltb p (m * 128) a) ∙ sym (cost-none p (λ x y. omega arith))
+
+  -- a row of the table: up to its first pair, one pair more, and to its end
+  pub row-begin : (i : ℕ) {cost : List ℕ} → n ≤ 128 → i < n → Filled n ps (i * 128) cost → Filled n ps (i * 128 + (i + 1)) cost
+  row-begin i few l = filled-skip (omega arith) (λ p a b. cost-none p (λ x y. omega arith))
+
+  pub row-next :
+      (i j : ℕ) {cost : List ℕ} → n ≤ 128 → i < j → j < n → Filled n ps (i * 128 + j) cost →
+      Filled n ps (i * 128 + (j + 1)) (set cost (i * 128 + j) (getD ps (i * n + j) 0))
+  row-next i j {cost} few a b F =
+      let e : i * 128 + j + 1 ≡ i * 128 + (j + 1) = omega arith in
+      subst (λ m. Filled n ps m (set cost (i * 128 + j) (getD ps (i * n + j) 0))) e
+      (filled-next cost (omega arith) (cost-pair i j a b few) F)
+
+  pub row-end :
+      (i j : ℕ) {cost : List ℕ} → n ≤ 128 → j ≤ n → n ≤ j → Filled n ps (i * 128 + j) cost → Filled n ps (i * 128 + 128) cost
+  row-end i j few a b = filled-skip (omega arith) (λ p x y. cost-none p (λ z w. omega arith))
+
+  pub rows-next : (i : ℕ) {cost : List ℕ} → Filled n ps (i * 128 + 128) cost → Filled n ps ((i + 1) * 128) cost
+  rows-next i {cost} F =
+      let e : i * 128 + 128 ≡ (i + 1) * 128 = omega arith in
+      subst (λ m. Filled n ps m cost) e F

@@ -1,23 +1,19 @@
+-- `bound::prices::allowed` meets its contract: the rule case by case. Assumes nothing.
+use Rattle.bound.proofs.PriceLaws.{on-diagonal, as-fixed, as-nothing, as-price}
 use Rattle.bound.proofs.prices.allowed.Statement.{statement}
 use Rattle.bound.proofs.prices.allowed.Tie as tie
-use Rattle.bound.proofs.prices.allowed.Reads as reads
-use Rattle.bound.proofs.prices.allowed.Lts as lts
 
--- src/prices.rt:17:9
 returns : tie.Need-returns
-returns c = ?
+returns c = on-diagonal _ _ _ (c .if1 .taken)
 
--- src/prices.rt:20:9
 returns-2 : tie.Need-returns-2
-returns-2 c = ?
+returns-2 c = as-fixed _ _ _ (c .before .if1 .left) (c .if2 .taken)
 
--- src/prices.rt:23:9
 returns-3 : tie.Need-returns-3
-returns-3 c = ?
+returns-3 c = as-nothing _ _ _ (c .before .before .if1 .left) (c .if3 .taken)
 
--- src/prices.rt:13:1
 returns-4 : tie.Need-returns-4
-returns-4 c = ?
+returns-4 c = as-price _ _ _ (c .before .before .if1 .left) (c .before .if2 .left) (c .if3 .left)
 
 pub allowed-spec : {M : Type 1} → statement M
 allowed-spec = tie.close (tie.spec returns returns-2 returns-3 returns-4)

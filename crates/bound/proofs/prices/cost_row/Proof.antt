@@ -1,73 +1,68 @@
+-- `bound::prices::cost_row` meets its contract. The loop over the vertices above i: the table is filled up to i and j.
+-- The measure is what is left of n. Assumes nothing.
+use borrow.Author.Needs.{needs}
+use native.Mathlib.Omega.{arith}
+use Prim.Native.Nat.{_+_, _*_, _-_, _≤_, _<_}
+use Rattle.graph.proofs.CheckLaws.{inside}
+use Rattle.bound.specs.Costs.{Filled}
+use Rattle.bound.proofs.PriceLaws.{row-begin, row-next, row-end}
 use Rattle.bound.proofs.prices.cost_row.Statement.{statement}
 use Rattle.bound.proofs.prices.cost_row.Tie as tie
-use Rattle.bound.proofs.prices.cost_row.Reads as reads
-use Rattle.bound.proofs.prices.cost_row.Lts as lts
 
 abbrev Inv-loop : tie.InvT-loop
-Inv-loop n prices i cost₀ j₀ cost j = ?
+Inv-loop n prices i cost₀ j₀ cost j = (i < j) × (j ≤ n) × Filled n prices (i * 128 + j) cost
 
 abbrev μ-loop : tie.MeasureT-loop
-μ-loop n prices i cost₀ j₀ cost j = ?
+μ-loop n prices i cost₀ j₀ cost j = n - j
 
--- src/prices.rt:101:17
 add-j : tie.Need-add-j Inv-loop μ-loop
-add-j c = ?
+add-j c = search needs
 
--- src/prices.rt:102:5
 loop-holds : tie.Need-loop-holds Inv-loop μ-loop
-loop-holds c = ?
+loop-holds c = let s = c .pre in (omega arith, omega arith, row-begin _ _ _ (s .0) (s .1 .1 .0) (s .1 .1 .1))
 
--- src/prices.rt:103:36
 mul-cost : tie.Need-mul-cost Inv-loop μ-loop
-mul-cost c = ?
+mul-cost c = let s = c .before .before .pre in omega (arith, inside (s .0) (s .1 .1 .0) (c .loop-test .taken))
 
--- src/prices.rt:103:36
 add-cost : tie.Need-add-cost Inv-loop μ-loop
-add-cost c = ?
+add-cost c = let s = c .before .before .pre in omega (arith, inside (s .0) (s .1 .1 .0) (c .loop-test .taken))
 
--- src/prices.rt:103:29
 mul-cost-2 : tie.Need-mul-cost-2 Inv-loop μ-loop
-mul-cost-2 c = ?
+mul-cost-2 c = let s = c .before .before .pre in omega (arith, inside (s .0) (s .1 .1 .0) (c .loop-test .taken))
 
--- src/prices.rt:103:29
 shared-slice-read-cost : tie.Need-shared-slice-read-cost Inv-loop μ-loop
-shared-slice-read-cost c = ?
+shared-slice-read-cost c = let s = c .before .before .before .pre in omega (arith, inside (s .0) (s .1 .1 .0) (c .before .loop-test .taken))
 
--- src/prices.rt:103:14
 mul-cost-3 : tie.Need-mul-cost-3 Inv-loop μ-loop
-mul-cost-3 c = ?
+mul-cost-3 c = search needs
 
--- src/prices.rt:103:14
 add-cost-2 : tie.Need-add-cost-2 Inv-loop μ-loop
-add-cost-2 c = ?
+add-cost-2 c = search needs
 
--- src/prices.rt:103:9
 mul-cost-4 : tie.Need-mul-cost-4 Inv-loop μ-loop
-mul-cost-4 c = ?
+mul-cost-4 c = search needs
 
--- src/prices.rt:103:9
 slice-write-cost : tie.Need-slice-write-cost Inv-loop μ-loop
-slice-write-cost c = ?
+slice-write-cost c = let s = c .before .before .before .pre in omega (arith, c .before .before .loop .inv .2 .many, c .before .loop-test .taken)
 
--- src/prices.rt:104:9
 add-j-2 : tie.Need-add-j-2 Inv-loop μ-loop
-add-j-2 c = ?
+add-j-2 c = search needs
 
--- src/prices.rt:102:5
 loop-less : tie.Need-loop-less Inv-loop μ-loop
-loop-less c = ?
+loop-less c = search needs
 
--- src/prices.rt:102:5
 loop-again : tie.Need-loop-again Inv-loop μ-loop
-loop-again c = ?
+loop-again c =
+    let s = c .before .before .before .pre in
+    let v = c .before .before .loop .inv in
+    let t = c .before .loop-test .taken in
+    (omega (arith, v .0), omega (arith, t), row-next _ _ _ _ (s .0) (v .0) t (v .2))
 
--- src/prices.rt:94:1
 same-length : tie.Need-same-length Inv-loop μ-loop
-same-length c = ?
+same-length c = search needs
 
--- src/prices.rt:94:1
 returns : tie.Need-returns Inv-loop μ-loop
-returns c = ?
+returns c = let v = c .before .loop .inv in row-end _ _ _ _ (c .before .before .pre .0) (v .1) (c .loop-test .left) (v .2)
 
 pub cost-row-spec : {M : Type 1} → statement M
 cost-row-spec =

@@ -1,57 +1,47 @@
+-- `bound::prices::price_entry` meets its contract: each return is one case of `priceEntry`. Assumes nothing.
+use native.Mathlib.Omega.{arith}
+use mathlib.Core.Path.{sym, _∙_}
+use Rattle.graph.proofs.CheckLaws.{inside}
+use Rattle.bound.proofs.PriceLaws.{unlike, fine, outside}
 use borrow.Author.Needs.{needs}
 use Rattle.bound.proofs.prices.price_entry.Statement.{statement}
 use Rattle.bound.proofs.prices.price_entry.Tie as tie
-use Rattle.bound.proofs.prices.price_entry.Reads as reads
-use Rattle.bound.proofs.prices.price_entry.Lts as lts
-use Rattle.bound.proofs.prices.allowed.Reads as allowed-reads
 
--- src/prices.rt:36:20
 mul-p : tie.Need-mul-p
-mul-p c = ?
+mul-p c = let s = c .before .pre in omega (arith, inside (s .0) (s .1 .1 .0) (s .1 .1 .1))
 
--- src/prices.rt:36:20
 add-p : tie.Need-add-p
-add-p c = ?
+add-p c = let s = c .before .pre in omega (arith, inside (s .0) (s .1 .1 .0) (s .1 .1 .1))
 
--- src/prices.rt:36:13
 mul-p-2 : tie.Need-mul-p-2
-mul-p-2 c = ?
+mul-p-2 c = let s = c .before .pre in omega (arith, inside (s .0) (s .1 .1 .0) (s .1 .1 .1))
 
--- src/prices.rt:36:13
 shared-slice-read-p : tie.Need-shared-slice-read-p
-shared-slice-read-p c = ?
+shared-slice-read-p c = let s = c .before .before .pre in omega (arith, inside (s .0) (s .1 .1 .0) (s .1 .1 .1))
 
--- src/prices.rt:37:20
 mul-q : tie.Need-mul-q
-mul-q c = ?
+mul-q c = let s = c .before .before .pre in omega (arith, inside (s .0) (s .1 .1 .1) (s .1 .1 .0))
 
--- src/prices.rt:37:20
 add-q : tie.Need-add-q
-add-q c = ?
+add-q c = let s = c .before .before .pre in omega (arith, inside (s .0) (s .1 .1 .1) (s .1 .1 .0))
 
--- src/prices.rt:37:13
 mul-q-2 : tie.Need-mul-q-2
-mul-q-2 c = ?
+mul-q-2 c = let s = c .before .before .pre in omega (arith, inside (s .0) (s .1 .1 .1) (s .1 .1 .0))
 
--- src/prices.rt:37:13
 shared-slice-read-q : tie.Need-shared-slice-read-q
-shared-slice-read-q c = ?
+shared-slice-read-q c = let s = c .before .before .before .pre in omega (arith, inside (s .0) (s .1 .1 .1) (s .1 .1 .0))
 
--- src/prices.rt:39:9
 returns : tie.Need-returns
-returns c = ?
+returns c = unlike _ _ _ _ (c .if1 .taken)
 
--- src/prices.rt:45:8
 allowed-requires : tie.Need-allowed-requires
 allowed-requires c κs = search needs
 
--- src/prices.rt:46:9
 returns-2 : tie.Need-returns-2
-returns-2 c = ?
+returns-2 c = fine _ _ _ _ (c .before .before .if1 .left) (sym (c .before .allowed .ensures) ∙ c .if2 .taken)
 
--- src/prices.rt:29:1
 returns-3 : tie.Need-returns-3
-returns-3 c = ?
+returns-3 c = outside _ _ _ _ (sym (c .before .allowed .ensures) ∙ c .if2 .left)
 
 pub price-entry-spec : {M : Type 1} → statement M
 price-entry-spec =

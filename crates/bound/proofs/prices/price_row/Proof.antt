@@ -1,49 +1,52 @@
+-- `bound::prices::price_row` meets its contract. The loop's invariant: nothing is found before `j`. Assumes nothing.
+use mathlib.Core.Path.{sym, _∙_}
+use mathlib.Core.List.{[], _∷_}
+use Prim.Native.Nat.{_≤_, _-_}
+use borrow.Author.Needs.{needs}
+use Rattle.graph.specs.Price.{priceEntry}
+use Rattle.graph.proofs.Refusals.{firstOf-single}
+use Rattle.graph.proofs.CheckLaws.{Quiet, quiet-none, quiet-next, found-here, quiet-end}
 use Rattle.bound.proofs.prices.price_row.Statement.{statement}
 use Rattle.bound.proofs.prices.price_row.Tie as tie
-use Rattle.bound.proofs.prices.price_row.Reads as reads
-use Rattle.bound.proofs.prices.price_row.Lts as lts
-use Rattle.bound.proofs.prices.price_entry.Reads as price-entry-reads
 
 abbrev Inv-loop : tie.InvT-loop
-Inv-loop n prices i j₀ j = ?
+Inv-loop n prices i j₀ j = (j ≤ n) × Quiet (λ b. priceEntry n prices i b ∷ []) j
 
 abbrev μ-loop : tie.MeasureT-loop
-μ-loop n prices i j₀ j = ?
+μ-loop n prices i j₀ j = n - j
 
--- src/prices.rt:58:5
 loop-holds : tie.Need-loop-holds Inv-loop μ-loop
-loop-holds c = ?
+loop-holds c = (search needs, quiet-none _)
 
--- src/prices.rt:59:13
 price-entry-requires : tie.Need-price-entry-requires Inv-loop μ-loop
-price-entry-requires c κs = ?
+price-entry-requires c κs = search needs
 
--- src/prices.rt:65:13
 enum-told : tie.Need-enum-told Inv-loop μ-loop
-enum-told c = ?
+enum-told c = search needs
 
--- src/prices.rt:65:13
 returns : tie.Need-returns Inv-loop μ-loop
-returns c = ?
+returns c =
+    let at = c .before .before .before in
+    let one = c .before .before .price-entry .ensures ∙ sym (firstOf-single _) in
+    found-here _ _ _ (at .loop-test .taken) (at .before .loop .inv .1) one (c .enum-told .given .1)
 
 enum-told-2 : tie.Need-enum-told-2 Inv-loop μ-loop
-enum-told-2 c = ?
+enum-told-2 c = search needs
 
--- src/prices.rt:67:9
 add-j : tie.Need-add-j Inv-loop μ-loop
-add-j c = ?
+add-j c = search needs
 
--- src/prices.rt:58:5
 loop-less : tie.Need-loop-less Inv-loop μ-loop
-loop-less c = ?
+loop-less c = search needs
 
--- src/prices.rt:58:5
 loop-again : tie.Need-loop-again Inv-loop μ-loop
-loop-again c = ?
+loop-again c =
+    let at = c .before .before .before .before in
+    let one = firstOf-single _ ∙ sym (c .before .before .price-entry .ensures) ∙ c .enum-told2 .given .1 in
+    (search needs, quiet-next _ _ (at .loop .inv .1) one)
 
--- src/prices.rt:51:1
 returns-2 : tie.Need-returns-2 Inv-loop μ-loop
-returns-2 c = ?
+returns-2 c = quiet-end _ _ _ (c .loop-test .left) (c .before .loop .inv .1)
 
 pub price-row-spec : {M : Type 1} → statement M
 price-row-spec =
