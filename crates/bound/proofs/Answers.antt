@@ -1,25 +1,36 @@
 -- The refusals of `bound` in its order, and that its promise determines the answer. Assumes nothing.
 use Prim.{tt}
 use mathlib.Core.Path.{_≡_, refl, sym, _∙_, ap}
-use mathlib.Core.Logic.{_≢_}
+use mathlib.Core.Logic.{_⊎_, inl, inr, _≢_}
 use mathlib.Core.Bool.{true, false, not}
 use mathlib.Core.List.{List, [], _∷_}
 use Prim.Native.Nat.{ℕ, _*_, _≤_, _<_}
 use native.Mathlib.Omega.{arith}
 use lib.ListN.{length}
-use lib.Dec.{ltb, eqb}
-use borrow.Author.Tests.{lt-ltb, le-ltb, eq-eqb, ne-eqb}
-use Rattle.bits.proofs.Truth.{not-in, not-off}
+use lib.Dec.{ltb, leb, eqb}
+use borrow.Author.Tests.{lt-ltb, le-ltb, eq-eqb, ne-eqb, leb-false}
+use Rattle.bits.specs.Choice.{pick}
+use Rattle.bits.proofs.Truth.{which, not-in, not-off, pick-true, pick-false}
 use Rattle.graph.specs.declared.Finding.{Finding}
 use Rattle.graph.specs.declared.Finding.the-variants.{Fine, Fault}
 use Rattle.graph.specs.Refusal.{firstOf}
 use Rattle.graph.specs.Check.{tooMany, wrongLength, entries}
 use Rattle.graph.specs.Price.{priceEntries}
+use Rattle.graph.specs.Graph.{IsGraph, edge, wordEdge}
+use Rattle.graph.specs.Quad.{quads}
 use Rattle.graph.proofs.Leading.{fault-not-fine}
+use Rattle.graph.proofs.Reading.{entries-graph}
 use Rattle.graph.proofs.Refusals.{firstOf-next, firstOf-here, row-holds, row-passes}
+use Rattle.repair.specs.Pair.{changeable}
+use Rattle.repair.specs.Repair.{tollOf}
+use Rattle.repair.specs.Packing.{hopeless, packing}
+use Rattle.bound.specs.Table.{boundOf}
+use Rattle.bound.specs.Costs.{Costs}
 use Rattle.bound.specs.declared.Answer.{Answer}
 use Rattle.bound.specs.declared.Answer.the-variants.{Refused, Bounded}
 use Rattle.bound.specs.Answer.{checks, refusal, packingOf, Meant, Promise}
+use Rattle.bound.proofs.Alike.{packing-made}
+use Rattle.bound.proofs.Exact.{bounded-fits}
 
 module _ (n : ℕ) (g prices : List ℕ) where
   pub refuses : {number i j : ℕ} → firstOf (checks n g prices) ≡ Fault number i j → Promise n g prices (Refused number i j)
@@ -73,6 +84,29 @@ module _ (n : ℕ) (g prices : List ℕ) where
             where
               none : firstOf [] ≡ Fine
               none = unfold firstOf in refl
+
+-- the words of a checked graph are a graph
+pub words-graph : (n : ℕ) (g words : List ℕ) → wordEdge words ≡ edge n g → entries n g ≡ Fine → IsGraph n (wordEdge words)
+words-graph n g words e ok = rw e (entries-graph n g ok)
+
+-- with the greatest room the walk gives the bound of the graph and the prices
+pub whole-bound :
+    (n : ℕ) → n ≤ 128 → (g prices words cost : List ℕ) {r : ℕ} → wordEdge words ≡ edge n g → entries n g ≡ Fine →
+    Costs n prices cost → priceEntries n prices ≡ Fine →
+    r ≡ pick (leb (boundOf n words cost) 4294967294) (boundOf n words cost) hopeless → r ≡ packingOf n g prices
+whole-bound n few g prices words cost {r} e ok C ok′ h =
+    h ∙ go (which (leb (boundOf n words cost) 4294967294)) ∙ packing-made n few prices cost C ok′ (wordEdge words) ∙
+    ap (λ f. packing n (changeable n (tollOf prices)) (tollOf prices) (quads n f)) e
+  where
+    go :
+        (leb (boundOf n words cost) 4294967294 ≡ true) ⊎ (leb (boundOf n words cost) 4294967294 ≡ false) →
+        pick (leb (boundOf n words cost) 4294967294) (boundOf n words cost) hopeless ≡ boundOf n words cost
+    go (inl t) = pick-true (boundOf n words cost) hopeless t
+    go (inr t) =
+        let l = leb-false (boundOf n words cost) 4294967294 t in
+        let m = bounded-fits n few (wordEdge words) (words-graph n g words e ok) cost in
+        let q : hopeless ≡ boundOf n words cost = omega arith in
+        pick-false (boundOf n words cost) hopeless t ∙ q
 
 -- two answers that the promise allows are equal
 pub bound-determined : (n : ℕ) (g prices : List ℕ) {r s : Answer} → Promise n g prices r → Promise n g prices s → r ≡ s

@@ -1,69 +1,72 @@
+-- `bound::bound` meets its contract: the refusals in their order, and the packing of the graph by itself. Assumes nothing.
+use native.Mathlib.Omega.{arith}
+use mathlib.Core.Path.{sym, _∙_}
+use native.Mathlib.Nat.{mul-le-mul}
+use Rattle.bound.proofs.Answers.{refuses, many-refused, graph-refused, prices-refused, entries-refused, priced-refused, all-pass}
 use borrow.Author.Needs.{needs}
 use Rattle.bound.proofs.bound.Statement.{statement}
 use Rattle.bound.proofs.bound.Tie as tie
-use Rattle.bound.proofs.bound.Reads as reads
-use Rattle.bound.proofs.bound.Lts as lts
-use Rattle.bound.proofs.packing_of.Reads as packing-of-reads
-use Rattle.bound.proofs.prices.price_entries.Reads as price-entries-reads
-use Rattle.graph.proofs.check.entries_of.Reads as entries-of-reads
 
--- src/lib.rt:45:9
 returns : tie.Need-returns
-returns c = ?
+returns c = refuses _ _ _ (many-refused _ _ _ (c .if1 .taken))
 
--- src/lib.rt:51:19
 mul-if2 : tie.Need-mul-if2
-mul-if2 c = ?
+mul-if2 c = let l = c .if1 .left in omega (arith, mul-le-mul l l)
 
--- src/lib.rt:52:9
 returns-2 : tie.Need-returns-2
-returns-2 c = ?
+returns-2 c = refuses _ _ _ (graph-refused _ _ _ (c .before .if1 .left) (c .if2 .taken))
 
--- src/lib.rt:58:24
 mul-if3 : tie.Need-mul-if3
 mul-if3 c = search needs
 
--- src/lib.rt:59:9
 returns-3 : tie.Need-returns-3
-returns-3 c = ?
+returns-3 c = refuses _ _ _ (prices-refused _ _ _ (c .before .before .if1 .left) (c .before .if2 .left) (c .if3 .taken))
 
--- src/lib.rt:65:9
 entries-of-requires : tie.Need-entries-of-requires
 entries-of-requires c κs = search needs
 
--- src/lib.rt:67:9
 enum-known-found : tie.Need-enum-known-found
 enum-known-found c = search needs
 
--- src/lib.rt:71:9
 returns-4 : tie.Need-returns-4
-returns-4 c = ?
+returns-4 c =
+    refuses _ _ _
+    (entries-refused _ _ _ (c .before .before .before .before .before .before .if1 .left) (c .before .before .before .before .before .if2 .left) (c .before .before .before .before .if3 .left)
+    (sym (c .before .before .before .entries-of .ensures) ∙ c .before .found .given .1))
 
 enum-told : tie.Need-enum-told
 enum-told c = search needs
 
--- src/lib.rt:77:9
 price-entries-requires : tie.Need-price-entries-requires
 price-entries-requires c κs = search needs
 
--- src/lib.rt:79:9
 enum-known-priced : tie.Need-enum-known-priced
 enum-known-priced c = search needs
 
--- src/lib.rt:83:9
 returns-5 : tie.Need-returns-5
-returns-5 c = ?
+returns-5 c =
+    refuses _ _ _
+    (priced-refused _ _ _ (c .before .before .before .before .before .before .before .before .before .if1 .left) (c .before .before .before .before .before .before .before .before .if2 .left) (c .before .before .before .before .before .before .before .if3 .left)
+    (sym (c .before .before .before .before .before .before .entries-of .ensures) ∙ c .before .before .before .before .enum-told .given .1)
+    (sym (c .before .before .before .price-entries .ensures) ∙ c .before .priced .given .1))
 
 enum-told-2 : tie.Need-enum-told-2
 enum-told-2 c = search needs
 
--- src/lib.rt:90:16
 packing-of-requires : tie.Need-packing-of-requires
-packing-of-requires c κs = ?
+packing-of-requires c κs = (
+  (c .before .before .before .before .before .before .before .before .if1 .left, c .before .before .before .before .before .before .before .if2 .left, c .before .before .before .before .before .before .if3 .left),
+  (
+    sym (c .before .before .before .before .before .entries-of .ensures) ∙ c .before .before .before .enum-told .given .1,
+    sym (c .before .before .price-entries .ensures) ∙ c .enum-told2 .given .1,
+  ),
+)
 
--- src/lib.rt:41:1
 returns-6 : tie.Need-returns-6
-returns-6 c = ?
+returns-6 c =
+    all-pass _ _ _ (c .before .before .before .before .before .before .before .before .before .if1 .left) (c .before .before .before .before .before .before .before .before .if2 .left) (c .before .before .before .before .before .before .before .if3 .left)
+    (sym (c .before .before .before .before .before .before .entries-of .ensures) ∙ c .before .before .before .before .enum-told .given .1)
+    (sym (c .before .before .before .price-entries .ensures) ∙ c .before .enum-told2 .given .1) (c .packing-of .ensures)
 
 pub bound-spec : {M : Type 1} → statement M
 bound-spec =

@@ -1,40 +1,39 @@
+-- `bound::packing_of` meets its contract: the words are the graph, and the table gives the bound of the prices. Assumes nothing.
+use native.Mathlib.Omega.{arith}
+use mathlib.Core.Path.{_∙_}
+use Rattle.bound.proofs.Answers.{words-graph, whole-bound}
 use borrow.Author.Needs.{needs}
 use Rattle.bound.proofs.packing_of.Statement.{statement}
 use Rattle.bound.proofs.packing_of.Tie as tie
-use Rattle.bound.proofs.packing_of.Reads as reads
-use Rattle.bound.proofs.packing_of.Lts as lts
-use Rattle.bound.proofs.pack.within.Reads as within-reads
-use Rattle.bound.proofs.prices.costs.Reads as costs-reads
-use Rattle.graph.proofs.rows.flat_of.Reads as flat-of-reads
-use Rattle.graph.proofs.rows.rows_of.Reads as rows-of-reads
 
--- src/lib.rt:34:9
 rows-of-requires : tie.Need-rows-of-requires
 rows-of-requires c κs = search needs
 
--- src/lib.rt:35:17
 flat-of-requires : tie.Need-flat-of-requires
 flat-of-requires c κs = search needs
 
--- src/lib.rt:36:16
 costs-requires : tie.Need-costs-requires
 costs-requires c κs = search needs
 
--- src/lib.rt:37:18
 slice-aggregate-within : tie.Need-slice-aggregate-within
 slice-aggregate-within c = search needs
 
--- src/lib.rt:37:26
 slice-aggregate-within-2 : tie.Need-slice-aggregate-within-2
 slice-aggregate-within-2 c = search needs
 
--- src/lib.rt:37:5
 within-requires : tie.Need-within-requires
-within-requires c κs = ?
+within-requires c κs =
+    let p = c .before .before .before .before .before .before .before .pre in
+    let flat = c .before .before .before .flat-of .ensures in (
+      (flat .shape .many, c .before .before .costs .ensures .many, p .0 .0, omega arith),
+      words-graph _ _ _ (flat .edges ∙ c .before .before .before .before .rows-of .ensures .edges) (p .1 .0),
+    )
 
--- src/lib.rt:29:1
 returns : tie.Need-returns
-returns c = ?
+returns c =
+    let p = c .before .before .before .before .before .before .before .before .pre in
+    whole-bound _ (p .0 .0) _ _ _ _ (c .before .before .before .before .flat-of .ensures .edges ∙ c .before .before .before .before .before .rows-of .ensures .edges) (p .1 .0)
+    (c .before .before .before .costs .ensures) (p .1 .1) (c .within .ensures)
 
 pub packing-of-spec : {M : Type 1} → statement M
 packing-of-spec =
