@@ -1,0 +1,4 @@
+pub mod Scale
+pub mod Lift
+pub mod Sheet
+pub mod Drawing
