@@ -7,6 +7,32 @@ ghost use mir.Val.{ofZ, toZ};
 ghost use Rattle.scores.specs.Scale.{onScale, edgeOf, priceOf};
 ghost use Rattle.scores.specs.Lift.{lift};
 
+// What `read` answers: a refusal with its number and place, or the sheet's p, n and t.
+pub enum Reading {
+    Refused {
+        number: u32,
+        row: usize,
+        column: usize,
+    },
+    Sheet {
+        p: usize,
+        n: usize,
+        t: i16,
+    },
+}
+
+// What `write` answers: a refusal with its number and place, or the sheet's length.
+pub enum Writing {
+    Refused {
+        number: u32,
+        row: usize,
+        column: usize,
+    },
+    Written {
+        length: usize,
+    },
+}
+
 fn on_scale(s: i16) -> bool
     ensures { λ r. ⌜ r ≡ onScale s ⌝ }
 {
