@@ -1,1 +1,5 @@
-pub mod Signed
+pub mod Complement
+pub mod Places
+pub mod Offs
+pub mod Checking
+pub mod ScoreFaults

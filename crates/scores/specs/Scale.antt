@@ -41,9 +41,12 @@ earlier n (suc i) = earlier n i + (n - suc i)
 unfoldable pub place : ℕ → ℕ → ℕ → ℕ
 place n i j = earlier n i + (j - suc i)
 
--- the score of the pair {i, j}
+-- the place of the pair {i, j}, and its score
+unfoldable pub spot : ℕ → ℕ → ℕ → ℕ
+spot n i j = pick (ltb i j) (place n i j) (place n j i)
+
 unfoldable pub scoreOf : ℕ → List ℤ → ℕ → ℕ → ℤ
-scoreOf n scores i j = getD scores (pick (ltb i j) (place n i j) (place n j i)) (pos 0)
+scoreOf n scores i j = getD scores (spot n i j) (pos 0)
 
 -- 5: "The threshold is tried first, place (0, 0)"
 unfoldable pub thresholdOff : ℤ → Finding

@@ -4,9 +4,9 @@ use lib.IntN.{ℤ, pos, negsuc}
 use lib.Signed.{ltZ, leZ}
 use mir.Syntax.{w16}
 use mir.ValLaws.{toZ-ofZ}
-use Rattle.scores.proofs.Signed.{low-off, low-on}
-use Rattle.scores.proofs.on_scale.Statement.{statement}
-use Rattle.scores.proofs.on_scale.Tie as tie
+use Rattle.scores.proofs.Complement.{low-off, low-on}
+use Rattle.scores.proofs.scale.on_scale.Statement.{statement}
+use Rattle.scores.proofs.scale.on_scale.Tie as tie
 
 returns : tie.Need-returns
 returns c =

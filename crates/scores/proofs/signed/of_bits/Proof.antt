@@ -6,10 +6,10 @@ use lib.IntN.{ℤ, negsuc, _-ℤ_}
 use mir.Syntax.{w16}
 use mir.Val.{ofZ, toZ, SFits}
 use mir.ValLaws.{toZ-ofZ, toZ-pos}
-use Rattle.scores.proofs.Signed.{minus-one, high-bits}
+use Rattle.scores.proofs.Complement.{minus-one, high-bits}
 use borrow.Author.Needs.{needs}
-use Rattle.scores.proofs.of_bits.Statement.{statement}
-use Rattle.scores.proofs.of_bits.Tie as tie
+use Rattle.scores.proofs.signed.of_bits.Statement.{statement}
+use Rattle.scores.proofs.signed.of_bits.Tie as tie
 
 -- -1 - y of what is left of 65,535
 low : (b : ℕ) → 32768 ≤ b → negsuc 0 -ℤ toZ w16 (65535 - b) ≡ negsuc (65535 - b)

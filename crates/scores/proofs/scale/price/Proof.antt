@@ -4,11 +4,11 @@ use Prim.Native.Nat.{ℕ, _-_, _≤_, _<_}
 use native.Mathlib.Omega.{arith}
 use mir.Syntax.{w16}
 use mir.ValLaws.{toZ-ofZ}
-use Rattle.scores.specs.Lift.{lift}
-use Rattle.scores.proofs.Signed.{price-under, price-over, price-tie}
+use Rattle.scores.specs.Inner.{lift}
+use Rattle.scores.proofs.Complement.{price-under, price-over, price-tie}
 use borrow.Author.Needs.{needs}
-use Rattle.scores.proofs.price.Statement.{statement}
-use Rattle.scores.proofs.price.Tie as tie
+use Rattle.scores.proofs.scale.price.Statement.{statement}
+use Rattle.scores.proofs.scale.price.Tie as tie
 
 pair : {x y x′ y′ : ℕ} → x ≡ x′ → y ≡ y′ → _≡_ {A = ℕ × ℕ} (x, y) (x′, y′)
 pair e f = cc

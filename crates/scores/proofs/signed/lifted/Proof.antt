@@ -5,10 +5,10 @@ use lib.IntN.{ℤ}
 use mir.Syntax.{w16}
 use mir.Val.{ofZ, SFits}
 use mir.ValLaws.{toZ-ofZ}
-use Rattle.scores.proofs.Signed.{lift-low, lift-high}
+use Rattle.scores.proofs.Complement.{lift-low, lift-high}
 use borrow.Author.Needs.{needs}
-use Rattle.scores.proofs.lifted.Statement.{statement}
-use Rattle.scores.proofs.lifted.Tie as tie
+use Rattle.scores.proofs.signed.lifted.Statement.{statement}
+use Rattle.scores.proofs.signed.lifted.Tie as tie
 
 bits-of-requires : tie.Need-bits-of-requires
 bits-of-requires c κs = search needs

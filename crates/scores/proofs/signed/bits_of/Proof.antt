@@ -9,9 +9,9 @@ use lib.Signed.{ltZ, nonNeg, mag}
 use mir.Syntax.{w16}
 use mir.Val.{ofZ, toZ, Fits, SFits}
 use mir.ValLaws.{toZ-ofZ}
-use Rattle.scores.proofs.Signed.{mirror, bits-below, above-zero}
-use Rattle.scores.proofs.bits_of.Statement.{statement}
-use Rattle.scores.proofs.bits_of.Tie as tie
+use Rattle.scores.proofs.Complement.{mirror, bits-below, above-zero}
+use Rattle.scores.proofs.signed.bits_of.Statement.{statement}
+use Rattle.scores.proofs.signed.bits_of.Tie as tie
 
 abbrev Back : ℤ → ℤ
 Back z = toZ w16 (ofZ w16 z)

@@ -11,11 +11,12 @@ use lib.IntN.{ℤ, pos, negsuc, natAbs, subℕ, _-ℤ_}
 use lib.Signed.{ltZ, leZ, mag}
 use mir.Syntax.{w16}
 use mir.Val.{ofZ, toZ, sel, SFits}
+use mir.ValLaws.{toZ-ofZ}
 use borrow.Author.Tests.{ltb-true, ltb-false, lt-ltb, le-ltb, lt-leb, le-leb, ne-eqb}
 use Rattle.bits.specs.Choice.{pick}
 use Rattle.bits.proofs.Truth.{which, never, pick-false}
 use Rattle.scores.specs.Scale.{onScale, distance, priceOf}
-use Rattle.scores.specs.Lift.{lift}
+use Rattle.scores.specs.Inner.{lift}
 
 -- below the scale's lower end a number is off it; from there on only the upper end counts
 pub low-off : (s : ℤ) → ltZ s (negsuc 4999) ≡ true → onScale s ≡ false
@@ -98,3 +99,7 @@ module _ (s t : ℤ) (f : SFits w16 s) (g : SFits w16 t) where
 
   pub price-tie : lift t ≤ lift s → lift s ≤ lift t → 1 ≡ priceOf s t
   price-tie h k = sym (price-at 0 (omega arith))
+
+-- a number of the type, through its bits and back
+pub back : (z : ℤ) → mag z < 32768 → toZ w16 (ofZ w16 z) ≡ z
+back z h = toZ-ofZ w16 z (record { sfits = h })
