@@ -1,5 +1,9 @@
 pub mod Complement
 pub mod Places
 pub mod Offs
+pub mod Pasting
+pub mod Entries
+pub mod Squares
 pub mod Checking
 pub mod ScoreFaults
+pub mod Drawings

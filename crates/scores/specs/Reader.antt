@@ -22,19 +22,21 @@ unfoldable pub noRoom : List ℤ → ℕ → Finding
 noRoom out n = row 10 (ltb (length out) (half n))
 
 -- 11: "p too large, or wrong length": "p at most 32,768", "exactly p + n(n-1) + 8"
-unfoldable pub wrongSheet : List ℕ → ℕ → ℕ → Finding
-wrongSheet sheet p n = row 11 (ltb 32768 p || not (eqb (length sheet) (sheetLength p n)))
+unfoldable pub wrongLayout : List ℕ → ℕ → ℕ → Bool
+wrongLayout sheet p n = ltb 32768 p || not (eqb (length sheet) (sheetLength p n))
 
--- "Reading a sheet: 11 if shorter than 8, 1, 11, 5, 10": all but the room
-unfoldable pub sheetFault : List ℕ → Finding
-sheetFault sheet =
+-- "Reading a sheet: 11 if shorter than 8, 1, 11, 5, 10": the first three, and all but the room
+unfoldable pub layoutFault : List ℕ → Finding
+layoutFault sheet =
     firstOf
     (row 11 (ltb (length sheet) 8)
     ∷ tooMany (sizeOf sheet)
-    ∷ wrongSheet sheet (notesOf sheet) (sizeOf sheet)
-    ∷ thresholdOff (thresholdOf sheet)
-    ∷ scoresOff (sizeOf sheet) (scoresOf sheet)
+    ∷ row 11 (wrongLayout sheet (notesOf sheet) (sizeOf sheet))
     ∷ [])
+
+unfoldable pub sheetFault : List ℕ → Finding
+sheetFault sheet =
+    firstOf (layoutFault sheet ∷ thresholdOff (thresholdOf sheet) ∷ scoresOff (sizeOf sheet) (scoresOf sheet) ∷ [])
 
 unfoldable pub checks : List ℕ → List ℤ → List Finding
 checks sheet out = sheetFault sheet ∷ noRoom out (sizeOf sheet) ∷ []

@@ -19,16 +19,14 @@ use Rattle.scores.specs.Sheet.{sheetLength, sheetBytes}
 unfoldable pub longNotes : List ℕ → Finding
 longNotes notes = row 11 (ltb 32768 (length notes))
 
--- "Writing: 1, 2, 11 for the notes, 5, 10"; "Room wanted: .. the whole length for a sheet"
+-- "Writing: 1, 2, 11 for the notes, 5, 10": all but the room
+unfoldable pub writeFault : List ℕ → List ℤ → ℕ → ℤ → Finding
+writeFault notes scores n t =
+    firstOf (tooMany n ∷ wrongCount scores n ∷ longNotes notes ∷ thresholdOff t ∷ scoresOff n scores ∷ [])
+
+-- "Room wanted: .. the whole length for a sheet"
 unfoldable pub checks : List ℕ → List ℤ → ℕ → ℤ → List ℕ → List Finding
-checks notes scores n t buf =
-    tooMany n
-    ∷ wrongCount scores n
-    ∷ longNotes notes
-    ∷ thresholdOff t
-    ∷ scoresOff n scores
-    ∷ tooShort buf (sheetLength (length notes) n)
-    ∷ []
+checks notes scores n t buf = writeFault notes scores n t ∷ tooShort buf (sheetLength (length notes) n) ∷ []
 
 -- this paper's number and place of each answer
 abbrev pub refusal : Writing → Finding

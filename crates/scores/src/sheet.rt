@@ -1,5 +1,6 @@
 // The sheet's fields: numbers read from bytes and written to bytes, low byte first, and the scores among them.
 ghost use mathlib.Core.Path.{_≡_};
+ghost use mathlib.Core.Bool.{not};
 ghost use mathlib.Core.List.{[], _∷_};
 ghost use Prim.Native.Nat.{_+_, _*_, _/_, _%_, _≤_, _<_};
 ghost use lib.ListN.{length, set};
@@ -8,7 +9,8 @@ ghost use mir.Syntax.{w16};
 ghost use mir.Val.{toZ};
 ghost use Rattle.graph.specs.Each.{each};
 ghost use Rattle.scores.specs.Scale.{onScale, half, scoresOff};
-ghost use Rattle.scores.specs.Sheet.{field, scoreAt, sheetLength, scoreBytes, trailer};
+ghost use Rattle.scores.specs.Sheet.{field, scoreAt, sheetLength, scoreBytes, trailer, notesOf, sizeOf, thresholdOf};
+ghost use Rattle.scores.specs.Reader.{wrongLayout, layoutFault, sheetFault};
 ghost use Rattle.scores.specs.Inner.{FirstOff, scoresIn};
 use crate::scale;
 use crate::signed;
@@ -129,4 +131,99 @@ pub fn put_trailer(buf: &mut [u8], p: usize, n: usize, t: i16)
     put2(buf, 4, n as u16);
     let v = signed::bits_of(t);
     put2(buf, 6, v);
+}
+
+// p, n and t of a sheet that has a trailer.
+pub fn notes_of(sheet: &[u8]) -> usize
+    requires { ⌜ 8 ≤ length (now sheet) ⌝ }
+    ensures { λ r. ⌜ r ≡ notesOf (now (sheet .entry)) ⌝ }
+{
+    number4(sheet, sheet.len() - 8)
+}
+
+pub fn size_of(sheet: &[u8]) -> usize
+    requires { ⌜ 8 ≤ length (now sheet) ⌝ }
+    ensures { λ r. ⌜ r ≡ sizeOf (now (sheet .entry)) ⌝ }
+{
+    number2(sheet, sheet.len() - 4) as usize
+}
+
+pub fn threshold_of(sheet: &[u8]) -> i16
+    requires { ⌜ 8 ≤ length (now sheet) ⌝ }
+    ensures { λ r. ⌜ r ≡ thresholdOf (now (sheet .entry)) ⌝ }
+{
+    signed2(sheet, sheet.len() - 2)
+}
+
+// p + n(n-1) + 8.
+pub fn length_of(p: usize, n: usize) -> usize
+    requires { ⌜ n ≤ 128 ⌝ }
+    requires { ⌜ p < 4294967296 ⌝ }
+    ensures { λ r. ⌜ r ≡ sheetLength p n ⌝ }
+{
+    p + 2 * scale::half_of(n) + 8
+}
+
+// Does the sheet have the length that its p and this n ask for, and p at most 32,768?
+fn is_long(sheet: &[u8], n: usize) -> bool
+    requires { ⌜ 8 ≤ length (now sheet) ⌝ }
+    requires { ⌜ n ≤ 128 ⌝ }
+    ensures { λ r. ⌜ r ≡ not (wrongLayout (now (sheet .entry)) (notesOf (now (sheet .entry))) n) ⌝ }
+{
+    let p = notes_of(sheet);
+    if 32768 < p {
+        return false;
+    }
+    sheet.len() == length_of(p, n)
+}
+
+// 11, 1 and 11: the trailer, n, and the length.
+fn layout_fault(sheet: &[u8]) -> Finding
+    ensures { λ r. ⌜ r ≡ layoutFault (now (sheet .entry)) ⌝ }
+{
+    if sheet.len() < 8 {
+        return Finding::Fault {
+            number: 11,
+            row: 0,
+            column: 0,
+        };
+    }
+    let n = size_of(sheet);
+    if 128 < n {
+        return Finding::Fault {
+            number: 1,
+            row: 0,
+            column: 0,
+        };
+    }
+    if is_long(sheet, n) {
+        return Finding::Fine;
+    }
+    Finding::Fault {
+        number: 11,
+        row: 0,
+        column: 0,
+    }
+}
+
+// All that a sheet is refused for but room.
+pub fn sheet_fault(sheet: &[u8]) -> Finding
+    ensures { λ r. ⌜ r ≡ sheetFault (now (sheet .entry)) ⌝ }
+{
+    let found = layout_fault(sheet);
+    if let Finding::Fault {
+        number: _,
+        row: _,
+        column: _,
+    } = found {
+        return found;
+    }
+    if scale::on_scale(threshold_of(sheet)) {
+        return off_scale(sheet, notes_of(sheet), size_of(sheet));
+    }
+    Finding::Fault {
+        number: 5,
+        row: 0,
+        column: 0,
+    }
 }

@@ -1,75 +1,141 @@
+-- `draw` meets its contract. The loop's invariant: the first `c` entries of both matrices are written. Assumes nothing.
+use Prim.Native.Nat.{ℕ, _*_, _-_, _≤_, _<_}
+use lib.IntN.{ℤ}
+use lib.ListN.{length}
+use lib.Seq.{paste, paste-zero}
+use mathlib.Core.List.{List}
+use mathlib.Core.Path.{_≡_, sym, _∙_, ap}
+use mir.Syntax.{w16}
+use mir.Val.{ofZ, toZ}
+use mir.ValLaws.{toZ-ofZ}
+use native.Mathlib.Nat.{mul-le-mul}
+use native.Mathlib.Omega.{arith}
+use Rattle.scores.proofs.Squares.{row-column, drawn-length, drawn-next, drawn-all}
 use Rattle.scores.proofs.draw.draw.Statement.{statement}
 use Rattle.scores.proofs.draw.draw.Tie as tie
-use Rattle.scores.proofs.draw.draw.Reads as reads
-use Rattle.scores.proofs.draw.draw.Lts as lts
-use Rattle.scores.proofs.draw.edge_entry.Reads as edge-entry-reads
-use Rattle.scores.proofs.draw.price_entry.Reads as price-entry-reads
+use Rattle.scores.specs.Scale.{edgeByte, priceEntry, square}
 
 abbrev Inv-loop : tie.InvT-loop
-Inv-loop n t scores graph₀ prices₀ all c₀ graph prices c = ?
+Inv-loop n t scores graph₀ prices₀ all c₀ graph prices c = (c ≤ n * n) × (graph ≡ paste graph₀ 0 (square n (edgeByte n (toZ w16 t) scores)) c) × (prices ≡ paste prices₀ 0 (square n (priceEntry n (toZ w16 t) scores)) c)
 
 abbrev μ-loop : tie.MeasureT-loop
-μ-loop n t scores graph₀ prices₀ all c₀ graph prices c = ?
+μ-loop n t scores graph₀ prices₀ all c₀ graph prices c = n * n - c
 
--- src/draw.rt:50:15
 mul-all : tie.Need-mul-all Inv-loop μ-loop
-mul-all c = ?
+mul-all c =
+    let n : ℕ = c .before .before .args .n in
+    let few : n ≤ 128 = omega arith in
+    let m : n * n ≤ 128 * 128 = mul-le-mul few few in
+    record { fits = omega arith }
 
--- src/draw.rt:52:5
 loop-holds : tie.Need-loop-holds Inv-loop μ-loop
-loop-holds c = ?
+loop-holds c =
+    let o = c .before .before in
+    let n : ℕ = o .args .n in
+    let t : ℤ = toZ w16 (ofZ w16 (o .args .t)) in
+    let xs : List ℤ = o .args .scores .now in
+    (omega arith, paste-zero (o .args .graph .now) 0 (square n (edgeByte n t xs)), paste-zero (o .args .prices .now) 0 (square n (priceEntry n t xs)))
 
--- src/draw.rt:53:17
 div-i : tie.Need-div-i Inv-loop μ-loop
-div-i c = ?
+div-i c = row-column (c .before .before .before .before .args .n) (c .before .loop .c) (c .loop-test .taken) .2
 
--- src/draw.rt:54:17
 rem-j : tie.Need-rem-j Inv-loop μ-loop
-rem-j c = ?
+rem-j c = row-column (c .before .before .before .before .args .n) (c .before .loop .c) (c .loop-test .taken) .2
 
--- src/draw.rt:55:13
 edge-entry-requires : tie.Need-edge-entry-requires Inv-loop μ-loop
-edge-entry-requires c κs = ?
+edge-entry-requires c κs =
+    let o = c .before .before .before .before in
+    let at = row-column (o .args .n) (c .before .loop .c) (c .loop-test .taken) in
+    (o .pre .0, (o .pre .1 .0, (at .0, at .1)))
 
--- src/draw.rt:56:13
 price-entry-requires : tie.Need-price-entry-requires Inv-loop μ-loop
-price-entry-requires c κs = ?
+price-entry-requires c κs =
+    let o = c .before .before .before .before .before in
+    let at = row-column (o .args .n) (c .before .before .loop .c) (c .before .loop-test .taken) in
+    (o .pre .0, (o .pre .1 .0, (at .0, at .1)))
 
--- src/draw.rt:57:9
 slice-write-graph : tie.Need-slice-write-graph Inv-loop μ-loop
-slice-write-graph c = ?
+slice-write-graph c =
+    let o = c .before .before .before .before .before .before in
+    let l = c .before .before .before .loop in
+    let n : ℕ = o .args .n in
+    let t : ℤ = toZ w16 (ofZ w16 (o .args .t)) in
+    let xs : List ℤ = o .args .scores .now in
+    omega (arith, drawn-length n (edgeByte n t xs) (o .args .graph .now) (o .pre .1 .1 .0) (l .c) (l .inv .1) (l .inv .0), o .pre .1 .1 .0, c .before .before .loop-test .taken)
 
--- src/draw.rt:58:9
 mul-prices : tie.Need-mul-prices Inv-loop μ-loop
-mul-prices c = ?
+mul-prices c =
+    let o = c .before .before .before .before .before .before in
+    let l = c .before .before .before .loop in
+    let n : ℕ = o .args .n in
+    let t : ℤ = toZ w16 (ofZ w16 (o .args .t)) in
+    let xs : List ℤ = o .args .scores .now in
+    let few : n ≤ 128 = o .pre .0 in
+    let m : n * n ≤ 128 * 128 = mul-le-mul few few in
+    record { fits = omega (arith, l .inv .0) }
 
--- src/draw.rt:58:9
 slice-write-prices : tie.Need-slice-write-prices Inv-loop μ-loop
-slice-write-prices c = ?
+slice-write-prices c =
+    let o = c .before .before .before .before .before .before in
+    let l = c .before .before .before .loop in
+    let n : ℕ = o .args .n in
+    let t : ℤ = toZ w16 (ofZ w16 (o .args .t)) in
+    let xs : List ℤ = o .args .scores .now in
+    omega (arith, drawn-length n (priceEntry n t xs) (o .args .prices .now) (o .pre .1 .1 .1) (l .c) (l .inv .2) (l .inv .0), o .pre .1 .1 .1, c .before .before .loop-test .taken)
 
--- src/draw.rt:59:9
 add-c : tie.Need-add-c Inv-loop μ-loop
-add-c c = ?
+add-c c =
+    let o = c .before .before .before .before .before .before in
+    let l = c .before .before .before .loop in
+    let n : ℕ = o .args .n in
+    let t : ℤ = toZ w16 (ofZ w16 (o .args .t)) in
+    let xs : List ℤ = o .args .scores .now in
+    let few : n ≤ 128 = o .pre .0 in
+    let m : n * n ≤ 128 * 128 = mul-le-mul few few in
+    record { fits = omega (arith, l .inv .0) }
 
--- src/draw.rt:52:5
 loop-less : tie.Need-loop-less Inv-loop μ-loop
-loop-less c = ?
+loop-less c = omega arith
 
--- src/draw.rt:52:5
 loop-again : tie.Need-loop-again Inv-loop μ-loop
-loop-again c = ?
+loop-again c =
+    let o = c .before .before .before .before .before .before in
+    let l = c .before .before .before .loop in
+    let n : ℕ = o .args .n in
+    let t : ℤ = toZ w16 (ofZ w16 (o .args .t)) in
+    let xs : List ℤ = o .args .scores .now in
+    let more = c .before .before .loop-test .taken in
+    (omega arith, drawn-next n (edgeByte n t xs) (o .args .graph .now) (o .pre .1 .1 .0) (l .c) (l .inv .1) more (c .before .edge-entry .ensures), drawn-next n (priceEntry n t xs) (o .args .prices .now) (o .pre .1 .1 .1) (l .c) (l .inv .2) more (c .price-entry .ensures))
 
--- src/draw.rt:43:1
 same-length : tie.Need-same-length Inv-loop μ-loop
-same-length c = ?
+same-length c =
+    let o = c .before .before .before .before in
+    let l = c .before .loop in
+    let n : ℕ = o .args .n in
+    let t : ℤ = toZ w16 (ofZ w16 (o .args .t)) in
+    let xs : List ℤ = o .args .scores .now in
+    drawn-length n (edgeByte n t xs) (o .args .graph .now) (o .pre .1 .1 .0) (l .c) (l .inv .1) (l .inv .0)
 
--- src/draw.rt:43:1
 same-length-2 : tie.Need-same-length-2 Inv-loop μ-loop
-same-length-2 c = ?
+same-length-2 c =
+    let o = c .before .before .before .before in
+    let l = c .before .loop in
+    let n : ℕ = o .args .n in
+    let t : ℤ = toZ w16 (ofZ w16 (o .args .t)) in
+    let xs : List ℤ = o .args .scores .now in
+    drawn-length n (priceEntry n t xs) (o .args .prices .now) (o .pre .1 .1 .1) (l .c) (l .inv .2) (l .inv .0)
 
--- src/draw.rt:43:1
 returns : tie.Need-returns Inv-loop μ-loop
-returns c = ?
+returns c =
+    let o = c .before .before .before .before in
+    let l = c .before .loop in
+    let n : ℕ = o .args .n in
+    let t : ℤ = toZ w16 (ofZ w16 (o .args .t)) in
+    let xs : List ℤ = o .args .scores .now in
+    let e : t ≡ o .args .t = toZ-ofZ w16 (o .args .t) (o .fits .t) in
+    let done = c .loop-test .left in
+    (drawn-all n (edgeByte n t xs) (o .args .graph .now) (o .pre .1 .1 .0) (l .c) (l .inv .1) (l .inv .0) done ∙ ap (λ (z : ℤ). paste (o .args .graph .now) 0 (square n (edgeByte n z xs)) (n * n)) e,
+    drawn-all n (priceEntry n t xs) (o .args .prices .now) (o .pre .1 .1 .1) (l .c) (l .inv .2) (l .inv .0) done ∙ ap (λ (z : ℤ). paste (o .args .prices .now) 0 (square n (priceEntry n z xs)) (n * n)) e)
 
 pub draw-spec : {M : Type 1} → statement M
 draw-spec =
