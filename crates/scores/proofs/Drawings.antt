@@ -27,6 +27,12 @@ counted n scores e =
     let b = fine-out 2 _ [] (a .1) in
     (ltb-false 128 n (a .0), eqb-true (length scores) (half n) (not-false (eqb (length scores) (half n)) (b .0)))
 
+-- the check of the scale speaks of the threshold itself, and not of its bits read back
+pub at-threshold :
+    {u t : ℤ} (n : ℕ) (scores : List ℤ) {x : Finding} → u ≡ t → x ≡ firstOf (thresholdOff u ∷ scoresOff n scores ∷ []) →
+    x ≡ firstOf (thresholdOff t ∷ scoresOff n scores ∷ [])
+at-threshold n scores e h = rw e at h
+
 module _ (n : ℕ) (t : ℤ) (scores : List ℤ) (graph prices : List ℕ) where
   abbrev counts : List Finding
   counts = tooMany n ∷ wrongCount scores n ∷ []
@@ -66,15 +72,15 @@ module _ (n : ℕ) (t : ℤ) (scores : List ℤ) (graph prices : List ℕ) where
           refuse (Fault 10 0 0) refl (hit 10 [] (lt-ltb _ _ h) ∙ pass 10 (tooShort prices (n * n) ∷ []) (le-ltb _ _ k) ∙ rest)
 
       pub drawn :
-          n * n ≤ length graph → n * n ≤ length prices → {graph′ prices′ : List ℕ} →
-          graph′ ≡ paste graph 0 (square n (edgeByte n t scores)) (n * n) →
-          prices′ ≡ paste prices 0 (square n (priceEntry n t scores)) (n * n) → Promise n t scores graph prices Fine graph′ prices′
+          n * n ≤ length graph → n * n ≤ length prices → {u : ℤ} {graph′ prices′ : List ℕ} → u ≡ t →
+          graph′ ≡ paste graph 0 (square n (edgeByte n u scores)) (n * n) →
+          prices′ ≡ paste prices 0 (square n (priceEntry n u scores)) (n * n) → Promise n t scores graph prices Fine graph′ prices′
       unfolding tooShort
-      drawn k h g p = record {
+      drawn k h e g p = record {
         refused =
           done ∙ pass 10 [] (le-ltb _ _ h) ∙ pass 10 (tooShort prices (n * n) ∷ []) (le-ltb _ _ k) ∙ rest
           ∙ sym (ap firstOf all-checks);
         meant =
-          (g ∙ pasted graph (square n (edgeByte n t scores)) (n * n) (length-square n (edgeByte n t scores)),
-          p ∙ pasted prices (square n (priceEntry n t scores)) (n * n) (length-square n (priceEntry n t scores)));
+          (rw e at g ∙ pasted graph (square n (edgeByte n t scores)) (n * n) (length-square n (edgeByte n t scores)),
+          rw e at p ∙ pasted prices (square n (priceEntry n t scores)) (n * n) (length-square n (priceEntry n t scores)));
       }

@@ -7,3 +7,6 @@ pub mod Squares
 pub mod Checking
 pub mod ScoreFaults
 pub mod Drawings
+pub mod Fields
+pub mod Puts
+pub mod Sheets

@@ -90,3 +90,10 @@ next-row n i k h l more =
         let z : i + 1 ≡ n = omega arith in
         let all : earlier n (i + 1) ≡ half n = ap (earlier n) z ∙ earlier-all n in
         absurd (omega arith)
+
+-- n(n-1) is even
+pub half-twice : (n : ℕ) → 2 * half n ≡ n * (n - 1)
+half-twice n =
+    let e : 2 * n - n - 1 ≡ n - 1 = omega arith in
+    let t : earlier n n * 2 ≡ n * (n - 1) = twice n n (omega arith) ∙ ap (λ (x : ℕ). n * x) e in
+    omega (arith, earlier-all n)

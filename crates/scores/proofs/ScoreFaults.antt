@@ -3,7 +3,7 @@
 use mathlib.Core.Path.{_≡_, refl, sym, _∙_, ap}
 use mathlib.Core.Logic.{_⊎_, inl, inr}
 use mathlib.Core.Bool.{Bool, true, false}
-use mathlib.Core.List.{List, []}
+use mathlib.Core.List.{List, [], _∷_}
 use Prim.Native.Nat.{ℕ, zero, suc, _≤_, _<_}
 use native.Mathlib.Omega.{arith}
 use lib.ListN.{getD}
@@ -18,6 +18,7 @@ use Rattle.graph.specs.Refusal.{firstOf}
 use Rattle.graph.proofs.CheckLaws.{firstOf-append, firstOf-one, found-here}
 use Rattle.scores.specs.Scale.{onScale, half, place, spot, scoreOf, scoreOff, scoresOff}
 use Rattle.scores.specs.Inner.{FirstOff, FaultAt}
+use Rattle.scores.proofs.Squares.{each-at}
 use Rattle.scores.proofs.Places.{place-below, place-row, place-later-column, place-later-row}
 
 -- nothing is found where nothing is found below n
@@ -80,3 +81,11 @@ module _ (n : ℕ) (scores : List ℤ) where
       (quiet-all i (λ a. each n (cell a)) (λ a ha. quiet-all n (cell a) (λ b hb. quiet-cell a b (λ u.
       o .before (place n a b) (omega (arith, place-later-row n u hb i 0 ha, place-row n up (at .2)))))))
       row refl
+
+-- the same of scores that are listed from f
+pub listed-off : (n : ℕ) {m r : ℕ} (f : ℕ → ℤ) → m ≡ half n → FirstOff (λ k. onScale (f k)) m r → FirstOff (λ k. onScale (getD (each (half n) (λ k. f k ∷ [])) k (pos 0))) (half n) r
+listed-off n {m} {r} f e o = record {
+  inside = omega (arith, o .inside);
+  before = λ k h. ap onScale (each-at (half n) f k (pos 0) (omega (arith, o .inside))) ∙ o .before k h;
+  here = λ h. ap onScale (each-at (half n) f r (pos 0) h) ∙ o .here (omega arith);
+}

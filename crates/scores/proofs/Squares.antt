@@ -6,12 +6,11 @@ use mathlib.Core.List.{List, [], _∷_, _++_}
 use Prim.Native.Nat.{ℕ, zero, suc, _+_, _*_, _/_, _%_, _≤_, _<_}
 use native.Mathlib.Nat.{suc-mul, zero-mul, mul-le-mul-right, mod-lt, div-add-mod', div-lt-iff-lt-mul}
 use native.Mathlib.Omega.{arith}
-use lib.ListN.{length, getD, set, length-append, List·getD-append}
-use lib.Seq.{paste, getD-append-add, getD-at}
+use lib.ListN.{length, getD, length-append, List·getD-append}
+use lib.Seq.{getD-append-add, getD-at}
 use Rattle.bits.proofs.Truth.{below}
 use Rattle.graph.specs.Each.{each}
 use Rattle.scores.specs.Scale.{square}
-use Rattle.scores.proofs.Pasting.{paste-next, length-pasted}
 
 module _ {A : Type 0} where
   pub length-each : (n : ℕ) (f : ℕ → A) → length (each n (λ k. f k ∷ [])) ≡ n
@@ -82,18 +81,3 @@ pub square-entry : (n : ℕ) (f : ℕ → ℕ → ℕ) (c : ℕ) → c < n * n �
 square-entry n f c h =
     let at = row-column n c h in
     ap (λ x. getD (square n f) x 0) (sym (div-add-mod' c n)) ∙ square-at n f (c / n) (c % n) (at .0) (at .1)
-
--- a matrix written entry by entry from the start of a list with room for it
-module _ (n : ℕ) (f : ℕ → ℕ → ℕ) (old : List ℕ) (room : n * n ≤ length old) {now : List ℕ} (c : ℕ) (so-far : now ≡ paste old 0 (square n f) c) where
-  pub drawn-length : c ≤ n * n → length now ≡ length old
-  drawn-length h = ap length so-far ∙ length-pasted old (square n f) c (omega arith) (omega (arith, length-square n f))
-
-  pub drawn-next : {v : ℕ} → c < n * n → v ≡ f (c / n) (c % n) → set now c v ≡ paste old 0 (square n f) (c + 1)
-  drawn-next {v} h e =
-      ap (λ (l : List ℕ). set l c v) so-far
-      ∙ paste-next old (square n f) c v 0 (omega arith) (omega (arith, length-square n f)) (e ∙ sym (square-entry n f c h))
-
-  pub drawn-all : c ≤ n * n → n * n ≤ c → now ≡ paste old 0 (square n f) (n * n)
-  drawn-all h k =
-      let e : c ≡ n * n = omega arith in
-      so-far ∙ ap (λ (m : ℕ). paste old 0 (square n f) m) e

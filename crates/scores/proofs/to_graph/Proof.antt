@@ -1,20 +1,14 @@
 -- `to_graph` meets its contract: its checks in turn, then the drawing. Assumes nothing.
 use Prim.Native.Nat.{ℕ, _*_, _≤_}
 use borrow.Author.Needs.{needs}
-use lib.IntN.{ℤ}
-use lib.Seq.{paste}
-use mathlib.Core.List.{[], _∷_}
-use mathlib.Core.Path.{_≡_, sym, _∙_, ap}
+use mathlib.Core.Path.{sym, _∙_}
 use mir.Syntax.{w16}
-use mir.Val.{ofZ, toZ}
 use mir.ValLaws.{toZ-ofZ}
 use native.Mathlib.Nat.{mul-le-mul}
 use native.Mathlib.Omega.{arith}
-use Rattle.graph.specs.Refusal.{firstOf}
-use Rattle.scores.proofs.Drawings.{counted, count-refused, scale-refused, graph-short, prices-short, drawn}
+use Rattle.scores.proofs.Drawings.{counted, at-threshold, count-refused, scale-refused, graph-short, prices-short, drawn}
 use Rattle.scores.proofs.to_graph.Statement.{statement}
 use Rattle.scores.proofs.to_graph.Tie as tie
-use Rattle.scores.specs.Scale.{thresholdOff, scoresOff, edgeByte, priceEntry, square}
 
 count-fault-requires : tie.Need-count-fault-requires
 count-fault-requires c κs = search needs
@@ -43,9 +37,8 @@ returns-2 : tie.Need-returns-2
 returns-2 c =
     let o = c .before .before .before .before .before .before .before .before  in
     let right = sym (c .before .before .before .enum-told2 .given .1) ∙ c .before .before .before .before .before .count-fault .ensures in
-    let t : toZ w16 (ofZ w16 (o .args .t)) ≡ o .args .t = toZ-ofZ w16 (o .args .t) (o .fits .t) in
-    let e : c .before .before .scale-fault .result ≡ firstOf (thresholdOff (o .args .t) ∷ scoresOff (o .args .n) (o .args .scores .now) ∷ []) =
-      c .before .before .scale-fault .ensures ∙ ap (λ (z : ℤ). firstOf (thresholdOff z ∷ scoresOff (o .args .n) (o .args .scores .now) ∷ [])) t in
+    let t = toZ-ofZ w16 (o .args .t) (o .fits .t) in
+    let e = at-threshold (o .args .n) (o .args .scores .now) t (c .before .before .scale-fault .ensures) in
     scale-refused (o .args .n) (o .args .t) (o .args .scores .now) (o .args .graph .now) (o .args .prices .now) right _ (c .enum-told3 .given .1) e
 
 enum-told-4 : tie.Need-enum-told-4
@@ -63,9 +56,8 @@ returns-3 : tie.Need-returns-3
 returns-3 c =
     let o = c .before .before .before .before .before .before .before .before .before  in
     let right = sym (c .before .before .before .before .enum-told2 .given .1) ∙ c .before .before .before .before .before .before .count-fault .ensures in
-    let t : toZ w16 (ofZ w16 (o .args .t)) ≡ o .args .t = toZ-ofZ w16 (o .args .t) (o .fits .t) in
-    let e : c .before .before .before .scale-fault .result ≡ firstOf (thresholdOff (o .args .t) ∷ scoresOff (o .args .n) (o .args .scores .now) ∷ []) =
-      c .before .before .before .scale-fault .ensures ∙ ap (λ (z : ℤ). firstOf (thresholdOff z ∷ scoresOff (o .args .n) (o .args .scores .now) ∷ [])) t in
+    let t = toZ-ofZ w16 (o .args .t) (o .fits .t) in
+    let e = at-threshold (o .args .n) (o .args .scores .now) t (c .before .before .before .scale-fault .ensures) in
     let on = sym (c .before .enum-told4 .given .1) ∙ e in
     graph-short (o .args .n) (o .args .t) (o .args .scores .now) (o .args .graph .now) (o .args .prices .now) right on (c .if1 .taken)
 
@@ -76,9 +68,8 @@ returns-4 : tie.Need-returns-4
 returns-4 c =
     let o = c .before .before .before .before .before .before .before .before .before .before  in
     let right = sym (c .before .before .before .before .before .enum-told2 .given .1) ∙ c .before .before .before .before .before .before .before .count-fault .ensures in
-    let t : toZ w16 (ofZ w16 (o .args .t)) ≡ o .args .t = toZ-ofZ w16 (o .args .t) (o .fits .t) in
-    let e : c .before .before .before .before .scale-fault .result ≡ firstOf (thresholdOff (o .args .t) ∷ scoresOff (o .args .n) (o .args .scores .now) ∷ []) =
-      c .before .before .before .before .scale-fault .ensures ∙ ap (λ (z : ℤ). firstOf (thresholdOff z ∷ scoresOff (o .args .n) (o .args .scores .now) ∷ [])) t in
+    let t = toZ-ofZ w16 (o .args .t) (o .fits .t) in
+    let e = at-threshold (o .args .n) (o .args .scores .now) t (c .before .before .before .before .scale-fault .ensures) in
     let on = sym (c .before .before .enum-told4 .given .1) ∙ e in
     prices-short (o .args .n) (o .args .t) (o .args .scores .now) (o .args .graph .now) (o .args .prices .now) right on (c .before .if1 .left) (c .if2 .taken)
 
@@ -98,14 +89,12 @@ returns-5 : tie.Need-returns-5
 returns-5 c =
     let o = c .before .before .before .before .before .before .before .before .before .before .before .before .before .before .before .before .before  in
     let right = sym (c .before .before .before .before .before .before .before .before .before .before .before .before .enum-told2 .given .1) ∙ c .before .before .before .before .before .before .before .before .before .before .before .before .before .before .count-fault .ensures in
-    let t : toZ w16 (ofZ w16 (o .args .t)) ≡ o .args .t = toZ-ofZ w16 (o .args .t) (o .fits .t) in
-    let e : c .before .before .before .before .before .before .before .before .before .before .before .scale-fault .result ≡ firstOf (thresholdOff (o .args .t) ∷ scoresOff (o .args .n) (o .args .scores .now) ∷ []) =
-      c .before .before .before .before .before .before .before .before .before .before .before .scale-fault .ensures ∙ ap (λ (z : ℤ). firstOf (thresholdOff z ∷ scoresOff (o .args .n) (o .args .scores .now) ∷ [])) t in
+    let t = toZ-ofZ w16 (o .args .t) (o .fits .t) in
+    let e = at-threshold (o .args .n) (o .args .scores .now) t (c .before .before .before .before .before .before .before .before .before .before .before .scale-fault .ensures) in
     let on = sym (c .before .before .before .before .before .before .before .before .before .enum-told4 .given .1) ∙ e in
     let d = c .before .before .before .before .draw .ensures in
     drawn (o .args .n) (o .args .t) (o .args .scores .now) (o .args .graph .now) (o .args .prices .now) right on (c .before .before .before .before .before .before .before .before .if1 .left) (c .before .before .before .before .before .before .before .if2 .left)
-    (d .0 ∙ ap (λ (z : ℤ). paste (o .args .graph .now) 0 (square (o .args .n) (edgeByte (o .args .n) z (o .args .scores .now))) (o .args .n * o .args .n)) t)
-    (d .1 ∙ ap (λ (z : ℤ). paste (o .args .prices .now) 0 (square (o .args .n) (priceEntry (o .args .n) z (o .args .scores .now))) (o .args .n * o .args .n)) t)
+    t (d .0) (d .1)
 
 pub to-graph-spec : {M : Type 1} → statement M
 to-graph-spec =

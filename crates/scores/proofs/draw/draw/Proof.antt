@@ -10,7 +10,8 @@ use mir.Val.{ofZ, toZ}
 use mir.ValLaws.{toZ-ofZ}
 use native.Mathlib.Nat.{mul-le-mul}
 use native.Mathlib.Omega.{arith}
-use Rattle.scores.proofs.Squares.{row-column, drawn-length, drawn-next, drawn-all}
+use Rattle.scores.proofs.Pasting.{so-long, one-more, complete}
+use Rattle.scores.proofs.Squares.{row-column, length-square, square-entry}
 use Rattle.scores.proofs.draw.draw.Statement.{statement}
 use Rattle.scores.proofs.draw.draw.Tie as tie
 use Rattle.scores.specs.Scale.{edgeByte, priceEntry, square}
@@ -61,7 +62,7 @@ slice-write-graph c =
     let n : ℕ = o .args .n in
     let t : ℤ = toZ w16 (ofZ w16 (o .args .t)) in
     let xs : List ℤ = o .args .scores .now in
-    omega (arith, drawn-length n (edgeByte n t xs) (o .args .graph .now) (o .pre .1 .1 .0) (l .c) (l .inv .1) (l .inv .0), o .pre .1 .1 .0, c .before .before .loop-test .taken)
+    omega (arith, so-long (o .args .graph .now) (square n (edgeByte n t xs)) (length-square n (edgeByte n t xs)) (o .pre .1 .1 .0) (l .c) (l .inv .1) (l .inv .0), o .pre .1 .1 .0, c .before .before .loop-test .taken)
 
 mul-prices : tie.Need-mul-prices Inv-loop μ-loop
 mul-prices c =
@@ -81,7 +82,7 @@ slice-write-prices c =
     let n : ℕ = o .args .n in
     let t : ℤ = toZ w16 (ofZ w16 (o .args .t)) in
     let xs : List ℤ = o .args .scores .now in
-    omega (arith, drawn-length n (priceEntry n t xs) (o .args .prices .now) (o .pre .1 .1 .1) (l .c) (l .inv .2) (l .inv .0), o .pre .1 .1 .1, c .before .before .loop-test .taken)
+    omega (arith, so-long (o .args .prices .now) (square n (priceEntry n t xs)) (length-square n (priceEntry n t xs)) (o .pre .1 .1 .1) (l .c) (l .inv .2) (l .inv .0), o .pre .1 .1 .1, c .before .before .loop-test .taken)
 
 add-c : tie.Need-add-c Inv-loop μ-loop
 add-c c =
@@ -105,7 +106,9 @@ loop-again c =
     let t : ℤ = toZ w16 (ofZ w16 (o .args .t)) in
     let xs : List ℤ = o .args .scores .now in
     let more = c .before .before .loop-test .taken in
-    (omega arith, drawn-next n (edgeByte n t xs) (o .args .graph .now) (o .pre .1 .1 .0) (l .c) (l .inv .1) more (c .before .edge-entry .ensures), drawn-next n (priceEntry n t xs) (o .args .prices .now) (o .pre .1 .1 .1) (l .c) (l .inv .2) more (c .price-entry .ensures))
+    (omega arith,
+    one-more (o .args .graph .now) (square n (edgeByte n t xs)) (length-square n (edgeByte n t xs)) (o .pre .1 .1 .0) (l .c) (l .inv .1) 0 more (c .before .edge-entry .ensures ∙ sym (square-entry n (edgeByte n t xs) (l .c) more)),
+    one-more (o .args .prices .now) (square n (priceEntry n t xs)) (length-square n (priceEntry n t xs)) (o .pre .1 .1 .1) (l .c) (l .inv .2) 0 more (c .price-entry .ensures ∙ sym (square-entry n (priceEntry n t xs) (l .c) more)))
 
 same-length : tie.Need-same-length Inv-loop μ-loop
 same-length c =
@@ -114,7 +117,7 @@ same-length c =
     let n : ℕ = o .args .n in
     let t : ℤ = toZ w16 (ofZ w16 (o .args .t)) in
     let xs : List ℤ = o .args .scores .now in
-    drawn-length n (edgeByte n t xs) (o .args .graph .now) (o .pre .1 .1 .0) (l .c) (l .inv .1) (l .inv .0)
+    so-long (o .args .graph .now) (square n (edgeByte n t xs)) (length-square n (edgeByte n t xs)) (o .pre .1 .1 .0) (l .c) (l .inv .1) (l .inv .0)
 
 same-length-2 : tie.Need-same-length-2 Inv-loop μ-loop
 same-length-2 c =
@@ -123,7 +126,7 @@ same-length-2 c =
     let n : ℕ = o .args .n in
     let t : ℤ = toZ w16 (ofZ w16 (o .args .t)) in
     let xs : List ℤ = o .args .scores .now in
-    drawn-length n (priceEntry n t xs) (o .args .prices .now) (o .pre .1 .1 .1) (l .c) (l .inv .2) (l .inv .0)
+    so-long (o .args .prices .now) (square n (priceEntry n t xs)) (length-square n (priceEntry n t xs)) (o .pre .1 .1 .1) (l .c) (l .inv .2) (l .inv .0)
 
 returns : tie.Need-returns Inv-loop μ-loop
 returns c =
@@ -134,8 +137,8 @@ returns c =
     let xs : List ℤ = o .args .scores .now in
     let e : t ≡ o .args .t = toZ-ofZ w16 (o .args .t) (o .fits .t) in
     let done = c .loop-test .left in
-    (drawn-all n (edgeByte n t xs) (o .args .graph .now) (o .pre .1 .1 .0) (l .c) (l .inv .1) (l .inv .0) done ∙ ap (λ (z : ℤ). paste (o .args .graph .now) 0 (square n (edgeByte n z xs)) (n * n)) e,
-    drawn-all n (priceEntry n t xs) (o .args .prices .now) (o .pre .1 .1 .1) (l .c) (l .inv .2) (l .inv .0) done ∙ ap (λ (z : ℤ). paste (o .args .prices .now) 0 (square n (priceEntry n z xs)) (n * n)) e)
+    (complete (o .args .graph .now) (square n (edgeByte n t xs)) (length-square n (edgeByte n t xs)) (o .pre .1 .1 .0) (l .c) (l .inv .1) (l .inv .0) done ∙ ap (λ (z : ℤ). paste (o .args .graph .now) 0 (square n (edgeByte n z xs)) (n * n)) e,
+    complete (o .args .prices .now) (square n (priceEntry n t xs)) (length-square n (priceEntry n t xs)) (o .pre .1 .1 .1) (l .c) (l .inv .2) (l .inv .0) done ∙ ap (λ (z : ℤ). paste (o .args .prices .now) 0 (square n (priceEntry n z xs)) (n * n)) e)
 
 pub draw-spec : {M : Type 1} → statement M
 draw-spec =

@@ -1,29 +1,24 @@
+-- `length_of` meets its contract: n(n-1) is even. Assumes nothing.
 use borrow.Author.Needs.{needs}
+use native.Mathlib.Omega.{arith}
+use Rattle.scores.proofs.Places.{half-twice, half-small}
 use Rattle.scores.proofs.sheet.length_of.Statement.{statement}
 use Rattle.scores.proofs.sheet.length_of.Tie as tie
-use Rattle.scores.proofs.sheet.length_of.Reads as reads
-use Rattle.scores.proofs.sheet.length_of.Lts as lts
-use Rattle.scores.proofs.scale.half_of.Reads as half-of-reads
 
--- src/sheet.rt:164:13
 half-of-requires : tie.Need-half-of-requires
 half-of-requires c κs = search needs
 
--- src/sheet.rt:164:9
 mul-result : tie.Need-mul-result
-mul-result c = ?
+mul-result c = omega (arith, c .half-of .ensures, half-twice (c .before .args .n), half-small (c .before .args .n) (c .before .pre .0))
 
--- src/sheet.rt:164:5
 add-result : tie.Need-add-result
-add-result c = ?
+add-result c = omega (arith, c .half-of .ensures, half-twice (c .before .args .n), half-small (c .before .args .n) (c .before .pre .0))
 
--- src/sheet.rt:164:5
 add-result-2 : tie.Need-add-result-2
-add-result-2 c = ?
+add-result-2 c = omega (arith, c .half-of .ensures, half-twice (c .before .args .n), half-small (c .before .args .n) (c .before .pre .0))
 
--- src/sheet.rt:159:1
 returns : tie.Need-returns
-returns c = ?
+returns c = omega (arith, c .half-of .ensures, half-twice (c .before .args .n), half-small (c .before .args .n) (c .before .pre .0))
 
 pub length-of-spec : {M : Type 1} → statement M
 length-of-spec = tie.close (tie.spec half-of-requires mul-result add-result add-result-2 returns)

@@ -1,40 +1,35 @@
+-- `number2` meets its contract: two bytes, low byte first. Assumes nothing.
+use Prim.Native.Nat.{ℕ, _+_}
 use borrow.Author.Needs.{needs}
+use mathlib.Core.Path.{sym}
+use native.Mathlib.Omega.{arith}
+use Rattle.scores.proofs.Fields.{field-two}
 use Rattle.scores.proofs.sheet.number2.Statement.{statement}
 use Rattle.scores.proofs.sheet.number2.Tie as tie
-use Rattle.scores.proofs.sheet.number2.Reads as reads
-use Rattle.scores.proofs.sheet.number2.Lts as lts
 
--- src/sheet.rt:22:6
 shared-slice-read-result : tie.Need-shared-slice-read-result
 shared-slice-read-result c = search needs
 
--- src/sheet.rt:22:6
 cast-result : tie.Need-cast-result
-cast-result c = ?
+cast-result c = omega (arith, c .shared-slice-known .given (c .before .args .at))
 
--- src/sheet.rt:22:31
 add-result : tie.Need-add-result
 add-result c = search needs
 
--- src/sheet.rt:22:29
 shared-slice-read-result-2 : tie.Need-shared-slice-read-result-2
 shared-slice-read-result-2 c = search needs
 
--- src/sheet.rt:22:29
 cast-result-2 : tie.Need-cast-result-2
-cast-result-2 c = ?
+cast-result-2 c = omega (arith, c .shared-slice-known2 .given (c .before .before .args .at + 1))
 
--- src/sheet.rt:22:22
 mul-result : tie.Need-mul-result
-mul-result c = ?
+mul-result c = omega (arith, c .shared-slice-known2 .given (c .before .before .args .at + 1))
 
--- src/sheet.rt:22:5
 add-result-2 : tie.Need-add-result-2
-add-result-2 c = ?
+add-result-2 c = omega (arith, c .before .shared-slice-known .given (c .before .before .args .at), c .shared-slice-known2 .given (c .before .before .args .at + 1))
 
--- src/sheet.rt:18:1
 returns : tie.Need-returns
-returns c = ?
+returns c = sym (field-two (c .before .before .args .s .now) (c .before .before .args .at) (omega arith))
 
 pub number2-spec : {M : Type 1} → statement M
 number2-spec =

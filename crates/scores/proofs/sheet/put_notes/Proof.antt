@@ -1,45 +1,55 @@
+-- `put_notes` meets its contract. The loop's invariant: the first `k` bytes are copied. Assumes nothing.
+use Prim.Native.Nat.{ℕ, _-_, _≤_, _<_}
+use lib.ListN.{length}
+use lib.Seq.{paste, paste-zero}
+use mathlib.Core.Path.{_≡_, refl}
+use native.Mathlib.Omega.{arith}
+use borrow.Author.Needs.{needs}
+use Rattle.scores.proofs.Pasting.{so-long, one-more, complete}
 use Rattle.scores.proofs.sheet.put_notes.Statement.{statement}
 use Rattle.scores.proofs.sheet.put_notes.Tie as tie
-use Rattle.scores.proofs.sheet.put_notes.Reads as reads
-use Rattle.scores.proofs.sheet.put_notes.Lts as lts
 
 abbrev Inv-loop : tie.InvT-loop
-Inv-loop buf₀ notes k₀ buf k = ?
+Inv-loop buf₀ notes k₀ buf k = (k ≤ length notes) × (buf ≡ paste buf₀ 0 notes k)
 
 abbrev μ-loop : tie.MeasureT-loop
-μ-loop buf₀ notes k₀ buf k = ?
+μ-loop buf₀ notes k₀ buf k = length notes - k
 
--- src/sheet.rt:101:5
 loop-holds : tie.Need-loop-holds Inv-loop μ-loop
-loop-holds c = ?
+loop-holds c = (omega arith, paste-zero (c .args .buf .now) 0 (c .args .notes .now))
 
--- src/sheet.rt:102:18
 shared-slice-read-buf : tie.Need-shared-slice-read-buf Inv-loop μ-loop
-shared-slice-read-buf c = ?
+shared-slice-read-buf c = search needs
 
--- src/sheet.rt:102:9
 slice-write-buf : tie.Need-slice-write-buf Inv-loop μ-loop
-slice-write-buf c = ?
+slice-write-buf c =
+    let o = c .before .before .before in
+    let l = c .before .before .loop in
+    omega (arith, so-long (o .args .buf .now) (o .args .notes .now) refl (o .pre) (l .k) (l .inv .1) (l .inv .0), o .pre)
 
--- src/sheet.rt:103:9
 add-k : tie.Need-add-k Inv-loop μ-loop
-add-k c = ?
+add-k c = search needs
 
--- src/sheet.rt:101:5
 loop-less : tie.Need-loop-less Inv-loop μ-loop
-loop-less c = ?
+loop-less c = search needs
 
--- src/sheet.rt:101:5
 loop-again : tie.Need-loop-again Inv-loop μ-loop
-loop-again c = ?
+loop-again c =
+    let o = c .before .before .before in
+    let l = c .before .before .loop in
+    (omega arith, one-more (o .args .buf .now) (o .args .notes .now) refl (o .pre) (l .k) (l .inv .1) 0 (c .before .loop-test .taken) refl)
 
--- src/sheet.rt:96:1
 same-length : tie.Need-same-length Inv-loop μ-loop
-same-length c = ?
+same-length c =
+    let o = c .before .before in
+    let l = c .before .loop in
+    so-long (o .args .buf .now) (o .args .notes .now) refl (o .pre) (l .k) (l .inv .1) (l .inv .0)
 
--- src/sheet.rt:96:1
 returns : tie.Need-returns Inv-loop μ-loop
-returns c = ?
+returns c =
+    let o = c .before .before in
+    let l = c .before .loop in
+    complete (o .args .buf .now) (o .args .notes .now) refl (o .pre) (l .k) (l .inv .1) (l .inv .0) (c .loop-test .left)
 
 pub put-notes-spec : {M : Type 1} → statement M
 put-notes-spec =
