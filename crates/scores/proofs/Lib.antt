@@ -10,3 +10,4 @@ pub mod Drawings
 pub mod Fields
 pub mod Puts
 pub mod Sheets
+pub mod Readings

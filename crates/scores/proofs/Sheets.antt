@@ -70,12 +70,13 @@ module _ (sheet : List ℕ) where
   laid e =
       let a = fine-out 11 (ltb (length sheet) 8) sizes e in
       let b = fine-out 1 (ltb 128 (sizeOf sheet)) layouts (a .1) in
+      let other : Bool = not (eqb (length sheet) (sheetLength (notesOf sheet) (sizeOf sheet))) in
       let w = fine-out 11 (wrongLayout sheet (notesOf sheet) (sizeOf sheet)) [] (b .1) .0 in
       record {
         trailed = ltb-false _ _ (a .0);
         few = ltb-false _ _ (b .0);
-        short = ltb-false _ _ (or-off-left _ _ w);
-        long = eqb-true _ _ (not-false _ (or-off-right _ _ w));
+        short = ltb-false _ _ (or-off-left (ltb 32768 (notesOf sheet)) other w);
+        long = eqb-true _ _ (not-false _ (or-off-right (ltb 32768 (notesOf sheet)) other w));
       }
 
   abbrev scales : List Finding

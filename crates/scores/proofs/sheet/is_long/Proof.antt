@@ -1,26 +1,36 @@
+-- `is_long` meets its contract. Assumes nothing.
+use Prim.Native.Nat.{ℕ, _≤_, _<_}
 use borrow.Author.Needs.{needs}
+use lib.Dec.{eqb}
+use lib.ListN.{length}
+use mathlib.Core.Bool.{false, not}
+use mathlib.Core.Path.{_≡_, sym, _∙_, ap, subst}
+use native.Mathlib.Omega.{arith}
+use Rattle.scores.proofs.Sheets.{too-much, as-long}
 use Rattle.scores.proofs.sheet.is_long.Statement.{statement}
 use Rattle.scores.proofs.sheet.is_long.Tie as tie
-use Rattle.scores.proofs.sheet.is_long.Reads as reads
-use Rattle.scores.proofs.sheet.is_long.Lts as lts
-use Rattle.scores.proofs.sheet.length_of.Reads as length-of-reads
-use Rattle.scores.proofs.sheet.notes_of.Reads as notes-of-reads
+use Rattle.scores.specs.Reader.{wrongLayout}
+use Rattle.scores.specs.Sheet.{notesOf, sheetLength}
 
--- src/sheet.rt:173:9
 notes-of-requires : tie.Need-notes-of-requires
 notes-of-requires c κs = search needs
 
--- src/sheet.rt:175:9
 returns : tie.Need-returns
-returns c = ?
+returns c =
+    let o = c .before .before .before  in
+    let e = c .before .notes-of .ensures in
+    too-much (o .args .sheet .now) (notesOf (o .args .sheet .now)) (o .args .n) (omega arith)
 
--- src/sheet.rt:177:20
 length-of-requires : tie.Need-length-of-requires
 length-of-requires c κs = search needs
 
--- src/sheet.rt:168:1
 returns-2 : tie.Need-returns-2
-returns-2 c = ?
+returns-2 c =
+    let o = c .before .before .before .before  in
+    let e = c .before .before .notes-of .ensures in
+    let l = c .length-of .ensures ∙ ap (λ (x : ℕ). sheetLength x (o .args .n)) e in
+    ap (λ (x : ℕ). eqb (length (o .args .sheet .now)) x) l
+    ∙ as-long (o .args .sheet .now) (notesOf (o .args .sheet .now)) (o .args .n) (omega arith)
 
 pub is-long-spec : {M : Type 1} → statement M
 is-long-spec = tie.close (tie.spec notes-of-requires returns length-of-requires returns-2)
