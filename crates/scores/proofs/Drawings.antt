@@ -78,9 +78,10 @@ module _ (n : ℕ) (t : ℤ) (scores : List ℤ) (graph prices : List ℕ) where
       unfolding tooShort
       drawn k h e g p = record {
         refused =
-          done ∙ pass 10 [] (le-ltb _ _ h) ∙ pass 10 (tooShort prices (n * n) ∷ []) (le-ltb _ _ k) ∙ rest
-          ∙ sym (ap firstOf all-checks);
-        meant =
-          (rw e at g ∙ pasted graph (square n (edgeByte n t scores)) (n * n) (length-square n (edgeByte n t scores)),
-          rw e at p ∙ pasted prices (square n (priceEntry n t scores)) (n * n) (length-square n (priceEntry n t scores)));
+            done ∙ pass 10 [] (le-ltb _ _ h) ∙ pass 10 (tooShort prices (n * n) ∷ []) (le-ltb _ _ k) ∙ rest
+            ∙ sym (ap firstOf all-checks);
+        meant = (
+          rw e at g ∙ pasted graph (square n (edgeByte n t scores)) (n * n) (length-square n (edgeByte n t scores)),
+          rw e at p ∙ pasted prices (square n (priceEntry n t scores)) (n * n) (length-square n (priceEntry n t scores)),
+        );
       }

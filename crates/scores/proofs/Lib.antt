@@ -9,5 +9,7 @@ pub mod ScoreFaults
 pub mod Drawings
 pub mod Fields
 pub mod Puts
+pub mod Growing
 pub mod Sheets
 pub mod Readings
+pub mod Writings

@@ -51,8 +51,8 @@ module _ (sheet : List ℕ) (out : List ℤ) where
         size = en;
         threshold = et;
         scores =
-          rw (ep, en) at e
-          ∙ pasted out (scoresIn sheet (notesOf sheet) (sizeOf sheet)) (half (sizeOf sheet))
+            rw (ep, en) at e
+            ∙ pasted out (scoresIn sheet (notesOf sheet) (sizeOf sheet)) (half (sizeOf sheet))
             (length-each (half (sizeOf sheet)) (scoreAt sheet (notesOf sheet)));
       };
     }

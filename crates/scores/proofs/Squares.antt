@@ -51,7 +51,7 @@ module _ {A : Type 0} where
             getD (each m row ++ row m) (i * n + j) d ≡ getD (row i) j d
         go lower (inl p) =
             let inside : i * n + j < length (each m row) =
-                  omega (arith, length-rows m, suc-mul i n, mul-le-mul-right n p) in
+            omega (arith, length-rows m, suc-mul i n, mul-le-mul-right n p) in
             List·getD-append (each m row) (row m) d (i * n + j) inside ∙ lower p hj
         go lower (inr p) =
             let e : i ≡ m = omega arith in

@@ -3,6 +3,7 @@
 mod draw;
 mod scale;
 mod sheet;
+
 ghost use mathlib.Core.Path.{_≡_};
 ghost use mathlib.Core.List.{[], _∷_, _++_};
 ghost use Prim.Native.Nat.{_+_, _*_, _≤_};

@@ -1,57 +1,60 @@
+-- `notes` meets its contract: the first p bytes of a sheet that the reader takes. Assumes nothing.
+use Prim.Native.Nat.{ℕ, _-_, _≤_}
 use borrow.Author.Needs.{needs}
+use lib.ListN.{take}
+use mathlib.Core.Path.{_≡_, sym, _∙_, ap}
+use native.Mathlib.Nat.{sub-zero}
+use native.Mathlib.Omega.{arith}
+use Rattle.scores.proofs.Readings.{shown-none, shown-all}
+use Rattle.scores.proofs.Sheets.{sound}
 use Rattle.scores.proofs.notes.Statement.{statement}
 use Rattle.scores.proofs.notes.Tie as tie
-use Rattle.scores.proofs.notes.Reads as reads
-use Rattle.scores.proofs.notes.Lts as lts
-use Rattle.scores.proofs.sheet.notes_of.Reads as notes-of-reads
-use Rattle.scores.proofs.sheet.sheet_fault.Reads as sheet-fault-reads
 
--- src/lib.rt:121:9
 sheet-fault-requires : tie.Need-sheet-fault-requires
 sheet-fault-requires c κs = search needs
 
--- src/lib.rt:122:16
 enum-told : tie.Need-enum-told
 enum-told c = search needs
 
--- src/lib.rt:122:16
 sub-result : tie.Need-sub-result
 sub-result c = search needs
 
--- src/lib.rt:122:16
 part-result-start : tie.Need-part-result-start
 part-result-start c = search needs
 
--- src/lib.rt:122:16
 part-result-end : tie.Need-part-result-end
 part-result-end c = search needs
 
--- src/lib.rt:122:9
 returns : tie.Need-returns
-returns c = ?
+returns c = shown-none (c .before .before .before .before .before .args .sheet .now) _ (c .before .enum-told .given .1) (c .before .before .before .sheet-fault .ensures)
 
 enum-told-2 : tie.Need-enum-told-2
 enum-told-2 c = search needs
 
--- src/lib.rt:124:9
 notes-of-requires : tie.Need-notes-of-requires
-notes-of-requires c κs = ?
+notes-of-requires c κs =
+    let o = c .before .before .before .before in
+    let right = sym (c .enum-told2 .given .1) ∙ c .before .before .sheet-fault .ensures in
+    sound (o .args .sheet .now) right .0 .trailed
 
--- src/lib.rt:125:5
 sub-result-2 : tie.Need-sub-result-2
 sub-result-2 c = search needs
 
--- src/lib.rt:125:5
 part-result-start-2 : tie.Need-part-result-start-2
 part-result-start-2 c = search needs
 
--- src/lib.rt:125:5
 part-result-end-2 : tie.Need-part-result-end-2
-part-result-end-2 c = ?
+part-result-end-2 c =
+    let o = c .before .before .before .before .before in
+    let right = sym (c .before .enum-told2 .given .1) ∙ c .before .before .before .sheet-fault .ensures in
+    let ok = sound (o .args .sheet .now) right .0 in
+    omega (arith, ok .long, c .notes-of .ensures)
 
--- src/lib.rt:114:1
 returns-2 : tie.Need-returns-2
-returns-2 c = ?
+returns-2 c =
+    let o = c .before .before .before .before .before .before in
+    let right = sym (c .before .before .enum-told2 .given .1) ∙ c .before .before .before .before .sheet-fault .ensures in
+    ap (λ (k : ℕ). take k (o .args .sheet .now)) (sub-zero _ ∙ c .before .notes-of .ensures) ∙ shown-all (o .args .sheet .now) right
 
 pub notes-spec : {M : Type 1} → statement M
 notes-spec =

@@ -35,7 +35,7 @@ enum-told-3 c = search needs
 
 returns-2 : tie.Need-returns-2
 returns-2 c =
-    let o = c .before .before .before .before .before .before .before .before  in
+    let o = c .before .before .before .before .before .before .before .before in
     let right = sym (c .before .before .before .enum-told2 .given .1) ∙ c .before .before .before .before .before .count-fault .ensures in
     let t = toZ-ofZ w16 (o .args .t) (o .fits .t) in
     let e = at-threshold (o .args .n) (o .args .scores .now) t (c .before .before .scale-fault .ensures) in
@@ -54,7 +54,7 @@ mul-if1 c =
 
 returns-3 : tie.Need-returns-3
 returns-3 c =
-    let o = c .before .before .before .before .before .before .before .before .before  in
+    let o = c .before .before .before .before .before .before .before .before .before in
     let right = sym (c .before .before .before .before .enum-told2 .given .1) ∙ c .before .before .before .before .before .before .count-fault .ensures in
     let t = toZ-ofZ w16 (o .args .t) (o .fits .t) in
     let e = at-threshold (o .args .n) (o .args .scores .now) t (c .before .before .before .scale-fault .ensures) in
@@ -66,7 +66,7 @@ mul-if2 c = search needs
 
 returns-4 : tie.Need-returns-4
 returns-4 c =
-    let o = c .before .before .before .before .before .before .before .before .before .before  in
+    let o = c .before .before .before .before .before .before .before .before .before .before in
     let right = sym (c .before .before .before .before .before .enum-told2 .given .1) ∙ c .before .before .before .before .before .before .before .count-fault .ensures in
     let t = toZ-ofZ w16 (o .args .t) (o .fits .t) in
     let e = at-threshold (o .args .n) (o .args .scores .now) t (c .before .before .before .before .scale-fault .ensures) in
@@ -75,7 +75,7 @@ returns-4 c =
 
 draw-requires : tie.Need-draw-requires
 draw-requires c κs =
-    let o = c .before .before .before .before .before .before .before .before .before .before .before .before  in
+    let o = c .before .before .before .before .before .before .before .before .before .before .before .before in
     let ok = counted (o .args .n) (o .args .scores .now) (sym (c .before .before .before .before .before .before .before .enum-told2 .given .1) ∙ c .before .before .before .before .before .before .before .before .before .count-fault .ensures) in
     (ok .0, (ok .1, (c .before .before .before .if1 .left, c .before .before .if2 .left)))
 
@@ -87,7 +87,7 @@ same-length-2 c = search needs
 
 returns-5 : tie.Need-returns-5
 returns-5 c =
-    let o = c .before .before .before .before .before .before .before .before .before .before .before .before .before .before .before .before .before  in
+    let o = c .before .before .before .before .before .before .before .before .before .before .before .before .before .before .before .before .before in
     let right = sym (c .before .before .before .before .before .before .before .before .before .before .before .before .enum-told2 .given .1) ∙ c .before .before .before .before .before .before .before .before .before .before .before .before .before .before .count-fault .ensures in
     let t = toZ-ofZ w16 (o .args .t) (o .fits .t) in
     let e = at-threshold (o .args .n) (o .args .scores .now) t (c .before .before .before .before .before .before .before .before .before .before .before .scale-fault .ensures) in

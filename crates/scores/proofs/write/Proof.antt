@@ -1,46 +1,64 @@
+-- `write` meets its contract: the checks in turn, then the sheet. Assumes nothing.
+use Prim.Native.Nat.{ℕ, _≤_, _<_}
 use borrow.Author.Needs.{needs}
+use lib.ListN.{length}
+use mathlib.Core.Path.{_≡_, sym, _∙_, ap, subst}
+use mir.Syntax.{w16}
+use mir.ValLaws.{toZ-ofZ}
+use native.Mathlib.Omega.{arith}
+use Rattle.scores.proofs.Writings.{writable, refused-write, refused-room, wrote}
 use Rattle.scores.proofs.write.Statement.{statement}
 use Rattle.scores.proofs.write.Tie as tie
-use Rattle.scores.proofs.write.Reads as reads
-use Rattle.scores.proofs.write.Lts as lts
-use Rattle.scores.proofs.put_sheet.Reads as put-sheet-reads
-use Rattle.scores.proofs.sheet.length_of.Reads as length-of-reads
-use Rattle.scores.proofs.write_fault.Reads as write-fault-reads
+use Rattle.scores.specs.Writer.{writeFault}
 
--- src/lib.rt:173:9
 write-fault-requires : tie.Need-write-fault-requires
 write-fault-requires c κs = search needs
 
--- src/lib.rt:170:9
 enum-known-number : tie.Need-enum-known-number
 enum-known-number c = search needs
 
--- src/lib.rt:174:9
 returns : tie.Need-returns
-returns c = ?
+returns c =
+    let o = c .before .before .before .before .before .before in
+    let same = toZ-ofZ w16 (o .args .t) (o .fits .t) in
+    let e = sym (c .before .number .given .1) ∙ c .before .before .before .write-fault .ensures ∙ ap (writeFault (o .args .notes .now) (o .args .scores .now) (o .args .n)) same in
+    refused-write (o .args .notes .now) (o .args .scores .now) (o .args .n) (o .args .t) (o .args .buf .now) e
 
 enum-told : tie.Need-enum-told
 enum-told c = search needs
 
--- src/lib.rt:180:9
 length-of-requires : tie.Need-length-of-requires
-length-of-requires c κs = ?
+length-of-requires c κs =
+    let o = c .before .before .before .before .before in
+    let same = toZ-ofZ w16 (o .args .t) (o .fits .t) in
+    let right = sym (c .enum-told .given .1) ∙ c .before .before .write-fault .ensures ∙ ap (writeFault (o .args .notes .now) (o .args .scores .now) (o .args .n)) same in
+    let ok = writable (o .args .notes .now) (o .args .scores .now) (o .args .n) (o .args .t) right in
+    (ok .0, omega (arith, ok .2))
 
--- src/lib.rt:182:9
 returns-2 : tie.Need-returns-2
-returns-2 c = ?
+returns-2 c =
+    let o = c .before .before .before .before .before .before .before in
+    let same = toZ-ofZ w16 (o .args .t) (o .fits .t) in
+    let right = sym (c .before .before .enum-told .given .1) ∙ c .before .before .before .before .write-fault .ensures ∙ ap (writeFault (o .args .notes .now) (o .args .scores .now) (o .args .n)) same in
+    refused-room (o .args .notes .now) (o .args .scores .now) (o .args .n) (o .args .t) (o .args .buf .now) right (subst (λ (x : ℕ). length (o .args .buf .now) < x) (c .before .length-of .ensures) (c .if1 .taken))
 
--- src/lib.rt:188:5
 put-sheet-requires : tie.Need-put-sheet-requires
-put-sheet-requires c κs = ?
+put-sheet-requires c κs =
+    let o = c .before .before .before .before .before .before .before .before in
+    let same = toZ-ofZ w16 (o .args .t) (o .fits .t) in
+    let right = sym (c .before .before .before .enum-told .given .1) ∙ c .before .before .before .before .before .write-fault .ensures ∙ ap (writeFault (o .args .notes .now) (o .args .scores .now) (o .args .n)) same in
+    let ok = writable (o .args .notes .now) (o .args .scores .now) (o .args .n) (o .args .t) right in
+    (ok .0, (ok .1, (ok .2, subst (λ (x : ℕ). x ≤ length (o .args .buf .now)) (c .before .before .length-of .ensures) (c .before .if1 .left))))
 
--- src/lib.rt:166:1
 same-length : tie.Need-same-length
 same-length c = search needs
 
--- src/lib.rt:166:1
 returns-3 : tie.Need-returns-3
-returns-3 c = ?
+returns-3 c =
+    let o = c .before .before .before .before .before .before .before .before .before .before .before in
+    let same = toZ-ofZ w16 (o .args .t) (o .fits .t) in
+    let right = sym (c .before .before .before .before .before .before .enum-told .given .1) ∙ c .before .before .before .before .before .before .before .before .write-fault .ensures ∙ ap (writeFault (o .args .notes .now) (o .args .scores .now) (o .args .n)) same in
+    wrote (o .args .notes .now) (o .args .scores .now) (o .args .n) (o .args .t) (o .args .buf .now) right (c .before .before .before .before .before .length-of .ensures) (c .before .before .before .before .if1 .left) same (c .before .before .put-sheet .ensures)
 
 pub write-spec : {M : Type 1} → statement M
 write-spec =

@@ -105,10 +105,11 @@ loop-again c =
     let n : ℕ = o .args .n in
     let t : ℤ = toZ w16 (ofZ w16 (o .args .t)) in
     let xs : List ℤ = o .args .scores .now in
-    let more = c .before .before .loop-test .taken in
-    (omega arith,
-    one-more (o .args .graph .now) (square n (edgeByte n t xs)) (length-square n (edgeByte n t xs)) (o .pre .1 .1 .0) (l .c) (l .inv .1) 0 more (c .before .edge-entry .ensures ∙ sym (square-entry n (edgeByte n t xs) (l .c) more)),
-    one-more (o .args .prices .now) (square n (priceEntry n t xs)) (length-square n (priceEntry n t xs)) (o .pre .1 .1 .1) (l .c) (l .inv .2) 0 more (c .price-entry .ensures ∙ sym (square-entry n (priceEntry n t xs) (l .c) more)))
+    let more = c .before .before .loop-test .taken in (
+      omega arith,
+      one-more (o .args .graph .now) (square n (edgeByte n t xs)) (length-square n (edgeByte n t xs)) (o .pre .1 .1 .0) (l .c) (l .inv .1) 0 more (c .before .edge-entry .ensures ∙ sym (square-entry n (edgeByte n t xs) (l .c) more)),
+      one-more (o .args .prices .now) (square n (priceEntry n t xs)) (length-square n (priceEntry n t xs)) (o .pre .1 .1 .1) (l .c) (l .inv .2) 0 more (c .price-entry .ensures ∙ sym (square-entry n (priceEntry n t xs) (l .c) more)),
+    )
 
 same-length : tie.Need-same-length Inv-loop μ-loop
 same-length c =
@@ -136,9 +137,10 @@ returns c =
     let t : ℤ = toZ w16 (ofZ w16 (o .args .t)) in
     let xs : List ℤ = o .args .scores .now in
     let e : t ≡ o .args .t = toZ-ofZ w16 (o .args .t) (o .fits .t) in
-    let done = c .loop-test .left in
-    (complete (o .args .graph .now) (square n (edgeByte n t xs)) (length-square n (edgeByte n t xs)) (o .pre .1 .1 .0) (l .c) (l .inv .1) (l .inv .0) done ∙ ap (λ (z : ℤ). paste (o .args .graph .now) 0 (square n (edgeByte n z xs)) (n * n)) e,
-    complete (o .args .prices .now) (square n (priceEntry n t xs)) (length-square n (priceEntry n t xs)) (o .pre .1 .1 .1) (l .c) (l .inv .2) (l .inv .0) done ∙ ap (λ (z : ℤ). paste (o .args .prices .now) 0 (square n (priceEntry n z xs)) (n * n)) e)
+    let done = c .loop-test .left in (
+      complete (o .args .graph .now) (square n (edgeByte n t xs)) (length-square n (edgeByte n t xs)) (o .pre .1 .1 .0) (l .c) (l .inv .1) (l .inv .0) done ∙ ap (λ (z : ℤ). paste (o .args .graph .now) 0 (square n (edgeByte n z xs)) (n * n)) e,
+      complete (o .args .prices .now) (square n (priceEntry n t xs)) (length-square n (priceEntry n t xs)) (o .pre .1 .1 .1) (l .c) (l .inv .2) (l .inv .0) done ∙ ap (λ (z : ℤ). paste (o .args .prices .now) 0 (square n (priceEntry n z xs)) (n * n)) e,
+    )
 
 pub draw-spec : {M : Type 1} → statement M
 draw-spec =

@@ -35,7 +35,7 @@ returns-2 c =
     let t : ℤ = o .args .t in
     c .price .ensures
     ∙ price-apart (o .args .n) t (o .args .scores .now) _ _ (c .before .before .before .if1 .left) (k .result) (k .ensures .0)
-      (toZ w16 (ofZ w16 z)) (toZ w16 (ofZ w16 t)) (back z (c .before .s .given)) (toZ-ofZ w16 t (o .fits .t))
+    (toZ w16 (ofZ w16 z)) (toZ w16 (ofZ w16 t)) (back z (c .before .s .given)) (toZ-ofZ w16 t (o .fits .t))
 
 pub price-entry-spec : {M : Type 1} → statement M
 price-entry-spec =

@@ -17,7 +17,7 @@ notes-of-requires c κs = search needs
 
 returns : tie.Need-returns
 returns c =
-    let o = c .before .before .before  in
+    let o = c .before .before .before in
     let e = c .before .notes-of .ensures in
     too-much (o .args .sheet .now) (notesOf (o .args .sheet .now)) (o .args .n) (omega arith)
 
@@ -26,7 +26,7 @@ length-of-requires c κs = search needs
 
 returns-2 : tie.Need-returns-2
 returns-2 c =
-    let o = c .before .before .before .before  in
+    let o = c .before .before .before .before in
     let e = c .before .before .notes-of .ensures in
     let l = c .length-of .ensures ∙ ap (λ (x : ℕ). sheetLength x (o .args .n)) e in
     ap (λ (x : ℕ). eqb (length (o .args .sheet .now)) x) l

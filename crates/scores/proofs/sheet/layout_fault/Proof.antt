@@ -17,7 +17,7 @@ size-of-requires c κs = search needs
 
 returns-2 : tie.Need-returns-2
 returns-2 c =
-    let o = c .before .before .before .before  in
+    let o = c .before .before .before .before in
     size-off (o .args .sheet .now) (c .before .before .if1 .left) (subst (λ (x : ℕ). 128 < x) (c .before .size-of .ensures) (c .if2 .taken))
 
 is-long-requires : tie.Need-is-long-requires
@@ -25,14 +25,14 @@ is-long-requires c κs = search needs
 
 returns-3 : tie.Need-returns-3
 returns-3 c =
-    let o = c .before .before .before .before .before .before  in
+    let o = c .before .before .before .before .before .before in
     let s = c .before .before .before .size-of .ensures in
     laid-out (o .args .sheet .now) (c .before .before .before .before .if1 .left) (subst (λ (x : ℕ). x ≤ 128) s (c .before .before .if2 .left))
     (subst (λ (x : ℕ). not (wrongLayout (o .args .sheet .now) (notesOf (o .args .sheet .now)) x) ≡ true) s (sym (c .before .is-long .ensures) ∙ c .if3 .taken))
 
 returns-4 : tie.Need-returns-4
 returns-4 c =
-    let o = c .before .before .before .before .before .before  in
+    let o = c .before .before .before .before .before .before in
     let s = c .before .before .before .size-of .ensures in
     length-off (o .args .sheet .now) (c .before .before .before .before .if1 .left) (subst (λ (x : ℕ). x ≤ 128) s (c .before .before .if2 .left))
     (subst (λ (x : ℕ). not (wrongLayout (o .args .sheet .now) (notesOf (o .args .sheet .now)) x) ≡ false) s (sym (c .before .is-long .ensures) ∙ c .if3 .left))

@@ -38,7 +38,7 @@ mul-put2 c = search needs
 
 put2-requires : tie.Need-put2-requires Inv-loop μ-loop
 put2-requires c κs =
-    let o = c .before .before .before .before .before .before  in
+    let o = c .before .before .before .before .before .before in
     let l = c .before .before .before .before .loop in
     omega (arith, so-long (o .args .buf .now) (scoreBytes (o .args .scores .now)) (length-scores (o .args .scores .now)) (o .pre) (2 * l .k) (l .inv .1) (omega arith), o .pre, c .before .before .before .loop-test .taken)
 
@@ -50,7 +50,7 @@ loop-less c = search needs
 
 loop-again : tie.Need-loop-again Inv-loop μ-loop
 loop-again c =
-    let o = c .before .before .before .before .before .before .before .before .before  in
+    let o = c .before .before .before .before .before .before .before .before .before in
     let l = c .before .before .before .before .before .before .before .loop in
     let z : ℤ = getD (o .args .scores .now) (l .k) (pos 0) in
     let b = c .before .before .before .before .bits-of in
@@ -59,13 +59,13 @@ loop-again c =
 
 same-length : tie.Need-same-length Inv-loop μ-loop
 same-length c =
-    let o = c .before .before .before  in
+    let o = c .before .before .before in
     let l = c .before .loop in
     so-long (o .args .buf .now) (scoreBytes (o .args .scores .now)) (length-scores (o .args .scores .now)) (o .pre) (2 * l .k) (l .inv .1) (omega arith)
 
 returns : tie.Need-returns Inv-loop μ-loop
 returns c =
-    let o = c .before .before .before  in
+    let o = c .before .before .before in
     let l = c .before .loop in
     complete (o .args .buf .now) (scoreBytes (o .args .scores .now)) (length-scores (o .args .scores .now)) (o .pre) (2 * l .k) (l .inv .1) (omega arith) (omega arith)
 

@@ -36,7 +36,7 @@ same-length c = search needs
 
 returns : tie.Need-returns
 returns c =
-    let o = c .before .before .before .before .before .before .before .before .before .before .before .before .before .before .before .before .before .before  in
+    let o = c .before .before .before .before .before .before .before .before .before .before .before .before .before .before .before .before .before .before in
     let b = c .before .before .before .before .bits-of in
     let e = b .ensures ∙ ap (ofZ w16) (toZ-ofZ w16 (o .args .t) (o .fits .t)) in
     let buf : List ℕ = o .args .buf .now in

@@ -25,7 +25,7 @@ enum-told-2 c = search needs
 
 threshold-of-requires : tie.Need-threshold-of-requires
 threshold-of-requires c κs =
-    let o = c .before .before .before .before  in
+    let o = c .before .before .before .before in
     let right = sym (c .enum-told2 .given .1) ∙ c .before .before .layout-fault .ensures in
     laid (o .args .sheet .now) right .trailed
 
@@ -34,19 +34,19 @@ on-scale-requires c κs = search needs
 
 notes-of-requires : tie.Need-notes-of-requires
 notes-of-requires c κs =
-    let o = c .before .before .before .before .before .before .before  in
+    let o = c .before .before .before .before .before .before .before in
     let right = sym (c .before .before .before .enum-told2 .given .1) ∙ c .before .before .before .before .before .layout-fault .ensures in
     laid (o .args .sheet .now) right .trailed
 
 size-of-requires : tie.Need-size-of-requires
 size-of-requires c κs =
-    let o = c .before .before .before .before .before .before .before .before  in
+    let o = c .before .before .before .before .before .before .before .before in
     let right = sym (c .before .before .before .before .enum-told2 .given .1) ∙ c .before .before .before .before .before .before .layout-fault .ensures in
     laid (o .args .sheet .now) right .trailed
 
 off-scale-requires : tie.Need-off-scale-requires
 off-scale-requires c κs =
-    let o = c .before .before .before .before .before .before .before .before .before  in
+    let o = c .before .before .before .before .before .before .before .before .before in
     let right = sym (c .before .before .before .before .before .enum-told2 .given .1) ∙ c .before .before .before .before .before .before .before .layout-fault .ensures in
     let ok = laid (o .args .sheet .now) right in
     let z = c .size-of .ensures in
@@ -56,7 +56,7 @@ off-scale-requires c κs =
 returns-2 : tie.Need-returns-2
 unfolding scoresOf
 returns-2 c =
-    let o = c .before .before .before .before .before .before .before .before .before .before  in
+    let o = c .before .before .before .before .before .before .before .before .before .before in
     let right = sym (c .before .before .before .before .before .before .enum-told2 .given .1) ∙ c .before .before .before .before .before .before .before .before .layout-fault .ensures in
     let t = back (c .before .before .before .before .before .threshold-of .result) (c .before .before .before .before .before .threshold-of .ok) ∙ c .before .before .before .before .before .threshold-of .ensures in
     let on = sym (ap onScale t) ∙ sym (c .before .before .before .before .on-scale .ensures) in
@@ -66,7 +66,7 @@ returns-2 c =
 
 returns-3 : tie.Need-returns-3
 returns-3 c =
-    let o = c .before .before .before .before .before .before .before  in
+    let o = c .before .before .before .before .before .before .before in
     let right = sym (c .before .before .before .enum-told2 .given .1) ∙ c .before .before .before .before .before .layout-fault .ensures in
     let t = back (c .before .before .threshold-of .result) (c .before .before .threshold-of .ok) ∙ c .before .before .threshold-of .ensures in
     let on = sym (ap onScale t) ∙ sym (c .before .on-scale .ensures) in
