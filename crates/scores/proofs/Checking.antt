@@ -27,6 +27,10 @@ unfolding row firstOf
 fine-out number true xs e = absurd (let z : _≡_ {A = ℕ} 0 1 = cc in omega arith)
 fine-out number false xs e = (refl, e)
 
+pub fine-first : (x y : Finding) → Fine ≡ orElse x y → (Fine ≡ x) × (Fine ≡ y)
+fine-first Fine y e = (refl, e)
+fine-first (Fault number i j) y e = absurd (let z : _≡_ {A = ℕ} 0 1 = cc in omega arith)
+
 -- the first checks of a call decide where they find something, else the others
 pub decided : {x : Finding} {number i j : ℕ} (xs ys : List Finding) → x ≡ Fault number i j → x ≡ firstOf xs → x ≡ firstOf (xs ++ ys)
 decided {x} {number} {i} {j} xs ys told e =

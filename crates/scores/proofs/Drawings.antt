@@ -1,6 +1,6 @@
 -- The answers of `to_graph`, one lemma for each return. Assumes nothing.
 use mathlib.Core.Path.{_≡_, refl, sym, _∙_, ap}
-use mathlib.Core.Bool.{true, false}
+use mathlib.Core.Bool.{true, false, not}
 use mathlib.Core.List.{List, [], _∷_, _++_}
 use Prim.Native.Nat.{ℕ, _*_, _≤_, _<_}
 use native.Mathlib.Omega.{arith}
@@ -13,9 +13,9 @@ use Rattle.graph.specs.declared.Finding.{Finding}
 use Rattle.graph.specs.declared.Finding.the-variants.{Fine, Fault}
 use Rattle.graph.specs.Refusal.{firstOf}
 use Rattle.graph.specs.Check.{tooMany, tooShort}
-use Rattle.scores.specs.Scale.{half, thresholdOff, scoresOff, edgeByte, priceEntry, square}
+use Rattle.scores.specs.Scale.{onScale, half, thresholdOff, scoresOff, edgeByte, priceEntry, square}
 use Rattle.scores.specs.Drawing.{wrongCount, checks, Promise}
-use Rattle.scores.proofs.Checking.{hit, pass, done, fine-out, decided, left-over}
+use Rattle.scores.proofs.Checking.{hit, pass, done, fine-out, fine-first, decided, left-over}
 use Rattle.scores.proofs.Squares.{length-square}
 use Rattle.scores.proofs.Pasting.{pasted}
 
@@ -46,6 +46,19 @@ module _ (n : ℕ) (t : ℤ) (scores : List ℤ) (graph prices : List ℕ) where
   all-checks : checks n t scores graph prices ≡ counts ++ (offs ++ rooms)
   unfolding checks
   all-checks = refl
+
+  -- where no check finds anything, n, the scores and the threshold are right
+  pub promised :
+      Fine ≡ firstOf (checks n t scores graph prices) →
+      (n ≤ 128) × (length scores ≡ half n) × (onScale t ≡ true) × (Fine ≡ scoresOff n scores)
+  unfolding checks tooMany wrongCount thresholdOff firstOf
+  promised e =
+      let a = fine-out 1 (ltb 128 n) (wrongCount scores n ∷ (offs ++ rooms)) e in
+      let b = fine-out 2 (not (eqb (length scores) (half n))) (offs ++ rooms) (a .1) in
+      let d = fine-out 5 (not (onScale t)) (scoresOff n scores ∷ rooms) (b .1) in
+      let s = fine-first (scoresOff n scores) (firstOf rooms) (d .1) in
+      let ok = counted n scores (done ∙ pass 2 [] (b .0) ∙ pass 1 (wrongCount scores n ∷ []) (a .0)) in
+      (ok .0, ok .1, not-false (onScale t) (d .0), s .0)
 
   refuse : {number i j : ℕ} (x : Finding) → x ≡ Fault number i j → x ≡ firstOf (counts ++ (offs ++ rooms)) → Promise n t scores graph prices x graph prices
   refuse Fine told e = absurd (let z : _≡_ {A = ℕ} 0 1 = cc in omega arith)

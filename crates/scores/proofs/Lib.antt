@@ -13,3 +13,6 @@ pub mod Growing
 pub mod Sheets
 pub mod Readings
 pub mod Writings
+pub mod OnScale
+pub mod Passes
+pub mod Determined

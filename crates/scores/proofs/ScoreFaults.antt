@@ -1,7 +1,7 @@
 -- The check 5 of the scores: the first score off the scale is that of the first pair at fault, row by row. Pairs in row
 -- order have rising places. Assumes nothing.
 use mathlib.Core.Path.{_≡_, refl, sym, _∙_, ap}
-use mathlib.Core.Logic.{_⊎_, inl, inr}
+use mathlib.Core.Logic.{_⊎_, inl, inr, _≢_}
 use mathlib.Core.Bool.{Bool, true, false}
 use mathlib.Core.List.{List, [], _∷_}
 use Prim.Native.Nat.{ℕ, zero, suc, _≤_, _<_}
@@ -10,7 +10,8 @@ use lib.ListN.{getD}
 use lib.IntN.{ℤ, pos}
 use lib.Dec.{ltb}
 use borrow.Author.Tests.{lt-ltb, le-ltb}
-use Rattle.bits.proofs.Truth.{below, pick-true, pick-false}
+use Rattle.bits.specs.Choice.{pick}
+use Rattle.bits.proofs.Truth.{below, passes, pick-true, pick-false}
 use Rattle.graph.specs.declared.Finding.{Finding}
 use Rattle.graph.specs.declared.Finding.the-variants.{Fine, Fault}
 use Rattle.graph.specs.Each.{each, only}
@@ -18,6 +19,7 @@ use Rattle.graph.specs.Refusal.{firstOf}
 use Rattle.graph.proofs.CheckLaws.{firstOf-append, firstOf-one, found-here}
 use Rattle.scores.specs.Scale.{onScale, half, place, spot, scoreOf, scoreOff, scoresOff}
 use Rattle.scores.specs.Inner.{FirstOff, FaultAt}
+use Rattle.scores.proofs.Checking.{fine-first}
 use Rattle.scores.proofs.Squares.{each-at}
 use Rattle.scores.proofs.Places.{place-below, place-row, place-later-column, place-later-row}
 
@@ -26,6 +28,19 @@ pub quiet-all : (n : ℕ) (f : ℕ → List Finding) → ((k : ℕ) → k < n �
 unfolding each firstOf
 quiet-all zero f h = refl
 quiet-all (suc n) f h = rw (firstOf-append, quiet-all n f (λ k l. h k (omega arith)), h n (omega arith))
+
+-- and where nothing is found at all, nothing is found at any k
+pub quiet-at : (n : ℕ) (f : ℕ → List Finding) (k : ℕ) → k < n → Fine ≡ firstOf (each n f) → Fine ≡ firstOf (f k)
+unfolding each
+quiet-at zero f k h e = absurd (omega arith)
+quiet-at (suc n) f k h e =
+    go (quiet-at n f k) (fine-first (firstOf (each n f)) (firstOf (f n)) (e ∙ firstOf-append (each n f) (f n))) (below k n)
+  where
+    go :
+        (k < n → Fine ≡ firstOf (each n f) → Fine ≡ firstOf (f k)) → (Fine ≡ firstOf (each n f)) × (Fine ≡ firstOf (f n)) →
+        (k < n) ⊎ (n ≤ k) → Fine ≡ firstOf (f k)
+    go lower both (inl p) = lower p (both .0)
+    go lower both (inr p) = let q : n ≡ k = omega arith in both .1 ∙ ap (λ x. firstOf (f x)) q
 
 module _ (n : ℕ) (scores : List ℤ) where
   abbrev on : ℕ → Bool
@@ -56,6 +71,36 @@ module _ (n : ℕ) (scores : List ℤ) where
       (ap (λ b. firstOf (only b (scoreOff n scores i j))) (lt-ltb i j h)
       ∙ firstOf-one (scoreOff n scores i j)
       ∙ pick-false Fine (Fault 5 i j) (ap onScale (score-place i j h) ∙ off))
+
+  -- the pair {i, j} has one score
+  pub score-mirror : (i j : ℕ) → i ≢ j → scoreOf n scores i j ≡ scoreOf n scores j i
+  unfolding scoreOf spot
+  score-mirror i j apart = ap (λ k. getD scores k (pos 0)) (go (below i j))
+    where
+      go : (i < j) ⊎ (j ≤ i) → pick (ltb i j) (place n i j) (place n j i) ≡ pick (ltb j i) (place n j i) (place n i j)
+      go (inl p) =
+          pick-true (place n i j) (place n j i) (lt-ltb i j p)
+          ∙ sym (pick-false (place n j i) (place n i j) (le-ltb j i (omega arith)))
+      go (inr p) =
+          pick-false (place n i j) (place n j i) (le-ltb i j p)
+          ∙ sym (pick-true (place n j i) (place n i j) (lt-ltb j i (omega arith)))
+
+  -- where the check finds nothing, every score is on the scale
+  up-on : (i j : ℕ) → i < j → j < n → Fine ≡ scoresOff n scores → onScale (scoreOf n scores i j) ≡ true
+  unfolding scoresOff scoreOff
+  up-on i j up hj e =
+      let here : Fine ≡ firstOf (cell i j) = quiet-at n (cell i) j hj (quiet-at n (λ i. each n (cell i)) i (omega arith) e) in
+      passes (λ off. clash (here ∙ sym (loud-cell i j up (sym (ap onScale (score-place i j up)) ∙ off))))
+    where
+      clash : Fine ≡ Fault 5 i j → ⊥
+      clash q = let z : _≡_ {A = ℕ} 0 1 = cc in omega arith
+
+  pub scores-on : (i j : ℕ) → i ≢ j → i < n → j < n → Fine ≡ scoresOff n scores → onScale (scoreOf n scores i j) ≡ true
+  scores-on i j apart hi hj e = go (below i j)
+    where
+      go : (i < j) ⊎ (j ≤ i) → onScale (scoreOf n scores i j) ≡ true
+      go (inl p) = up-on i j p hj e
+      go (inr p) = ap onScale (score-mirror i j apart) ∙ up-on j i (omega arith) hi e
 
   -- no score is off
   pub scores-fine : (r : ℕ) → FirstOff on (half n) r → half n ≤ r → Fine ≡ scoresOff n scores

@@ -11,13 +11,13 @@ use borrow.Author.Tests.{lt-ltb, le-ltb, ltb-false, eqb-true, not-true, not-fals
 use Rattle.bits.proofs.Truth.{which, not-in, not-off, or-left, or-off-left, or-off-right}
 use Rattle.graph.specs.declared.Finding.{Finding}
 use Rattle.graph.specs.declared.Finding.the-variants.{Fine, Fault}
-use Rattle.graph.specs.Refusal.{row, orElse, firstOf}
+use Rattle.graph.specs.Refusal.{row, firstOf}
 use Rattle.graph.specs.Check.{tooMany}
 use Rattle.graph.proofs.CheckLaws.{firstOf-one}
 use Rattle.scores.specs.Scale.{onScale, thresholdOff, scoresOff}
 use Rattle.scores.specs.Sheet.{sheetLength, notesOf, sizeOf, thresholdOf, scoresOf}
 use Rattle.scores.specs.Reader.{wrongLayout, layoutFault, sheetFault}
-use Rattle.scores.proofs.Checking.{hit, pass, done, fine-out, decided, left-over}
+use Rattle.scores.proofs.Checking.{hit, pass, done, fine-out, fine-first, decided, left-over}
 
 -- the length, and p
 pub too-much : (sheet : List ℕ) (p n : ℕ) → 32768 < p → false ≡ not (wrongLayout sheet p n)
@@ -101,10 +101,6 @@ module _ (sheet : List ℕ) where
         e ∙ sym (firstOf-one _) ∙ pass 5 (scoresOff (sizeOf sheet) (scoresOf sheet) ∷ []) (not-off h) ∙ rest
 
   -- what the reader would refuse for nothing but room: layout, threshold and scores are right
-  fine-first : (x y : Finding) → Fine ≡ orElse x y → (Fine ≡ x) × (Fine ≡ y)
-  fine-first Fine y e = (refl, e)
-  fine-first (Fault number i j) y e = absurd (let z : _≡_ {A = ℕ} 0 1 = cc in omega arith)
-
   pub sound : Fine ≡ sheetFault sheet → Laid × (onScale (thresholdOf sheet) ≡ true) × (Fine ≡ scoresOff (sizeOf sheet) (scoresOf sheet))
   unfolding sheetFault firstOf thresholdOff
   sound e =
