@@ -1,13 +1,15 @@
 -- Numbers in bytes, low byte first: writing and reading are inverse, and what the code computes at a place. Assumes nothing.
 use mathlib.Core.Path.{_≡_, refl, sym, _∙_, ap, ap₂}
+use mathlib.Core.Logic.{_⊎_, inl, inr}
 use mathlib.Core.List.{List, [], _∷_, _++_}
 use Prim.Native.Nat.{ℕ, zero, suc, _+_, _*_, _/_, _%_, _^_, _≤_, _<_}
 use native.Mathlib.Nat.{pow-suc}
 use native.Mathlib.Numerals.{add-one}
 use native.Mathlib.Omega.{arith}
-use lib.ListN.{length, getD, take, drop}
-use lib.Seq.{drop-cons, take-at, drop-at}
-use Rattle.scores.specs.Sheet.{lowFirst, number, field}
+use lib.ListN.{length, getD, take, drop, length-take, length-drop, List·getD-eq-default}
+use lib.Seq.{drop-cons, take-at, drop-at, getD-take, getD-drop, length-take-le}
+use Rattle.bits.proofs.Truth.{below}
+use Rattle.scores.specs.Sheet.{lowFirst, number, field, AreBytes}
 
 pub length-low : (k v : ℕ) → length (lowFirst k v) ≡ k
 unfolding lowFirst
@@ -24,17 +26,34 @@ number-low (suc k) v h =
     omega arith
 
 -- the bytes of the number of some bytes
-pub data Bytes : List ℕ → Type 0 where
-  none : Bytes []
-  byte : {b : ℕ} {bs : List ℕ} → b < 256 → Bytes bs → Bytes (b ∷ bs)
-
-pub low-number : {bs : List ℕ} → Bytes bs → lowFirst (length bs) (number bs) ≡ bs
+pub low-number : (bs : List ℕ) → AreBytes bs → lowFirst (length bs) (number bs) ≡ bs
 unfolding lowFirst number
-low-number none = refl
-low-number (byte {b} {bs} h r) =
+low-number [] all = refl
+low-number (b ∷ bs) all =
+    let h : b < 256 = all 0 in
     let m : (b + 256 * number bs) % 256 ≡ b = omega arith in
     let d : (b + 256 * number bs) / 256 ≡ number bs = omega arith in
-    ap₂ _∷_ m (ap (lowFirst (length bs)) d ∙ low-number r)
+    ap₂ _∷_ m (ap (lowFirst (length bs)) d ∙ low-number bs (λ k. all (suc k)))
+
+bytes-drop : (n : ℕ) (xs : List ℕ) → AreBytes xs → AreBytes (drop n xs)
+bytes-drop n xs all k = rw getD-drop (all (n + k))
+
+bytes-take : (n : ℕ) (xs : List ℕ) → AreBytes xs → AreBytes (take n xs)
+bytes-take n xs all k = go (below k n)
+  where
+    go : (k < n) ⊎ (n ≤ k) → getD (take n xs) k 0 < 256
+    go (inl p) = rw (getD-take n xs k 0 p) (all k)
+    go (inr p) =
+        let far : length (take n xs) ≤ k = omega (arith, length-take n xs) in
+        rw (List·getD-eq-default (take n xs) 0 far) (omega arith)
+
+-- the bytes of a field are those that it was read from
+pub field-back : (s : List ℕ) (at k : ℕ) → AreBytes s → at + k ≤ length s → lowFirst k (field s at k) ≡ take k (drop at s)
+unfolding field
+field-back s at k all h =
+    let e : length (take k (drop at s)) ≡ k = length-take-le k (drop at s) (omega (arith, length-drop at s)) in
+    ap (λ (m : ℕ). lowFirst m (number (take k (drop at s)))) (sym e)
+    ∙ low-number (take k (drop at s)) (bytes-take k (drop at s) (bytes-drop at s all))
 
 -- a field that stands behind a known part
 pub field-at : (xs : List ℕ) (k v : ℕ) (ys : List ℕ) (at : ℕ) → length xs ≡ at → v < 256 ^ k → field (xs ++ (lowFirst k v ++ ys)) at k ≡ v

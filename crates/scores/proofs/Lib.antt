@@ -16,3 +16,5 @@ pub mod Writings
 pub mod OnScale
 pub mod Passes
 pub mod Determined
+pub mod RoundTrip
+pub mod Rewriting

@@ -97,3 +97,21 @@ half-twice n =
     let e : 2 * n - n - 1 ≡ n - 1 = omega arith in
     let t : earlier n n * 2 ≡ n * (n - 1) = twice n n (omega arith) ∙ ap (λ (x : ℕ). n * x) e in
     omega (arith, earlier-all n)
+
+-- every place is that of a pair
+row-of : (n k i : ℕ) → k < earlier n i → (a : ℕ) × (a < i) × (earlier n a ≤ k) × (k < earlier n (suc a))
+unfolding earlier
+row-of n k zero h = absurd (omega arith)
+row-of n k (suc i) h = go (row-of n k i) (below k (earlier n i))
+  where
+    go :
+        (k < earlier n i → (a : ℕ) × (a < i) × (earlier n a ≤ k) × (k < earlier n (suc a))) →
+        (k < earlier n i) ⊎ (earlier n i ≤ k) → (a : ℕ) × (a < suc i) × (earlier n a ≤ k) × (k < earlier n (suc a))
+    go lower (inl p) = let (a, l, u, v) = lower p in (a, omega arith, u, v)
+    go lower (inr p) = (i, omega arith, p, h)
+
+pub place-onto : (n k : ℕ) → k < half n → (i : ℕ) × (j : ℕ) × (i < j) × (j < n) × (place n i j ≡ k)
+unfolding place earlier
+place-onto n k h =
+    let (i, l, u, v) = row-of n k n (omega (arith, earlier-all n)) in
+    (i, suc i + (k - earlier n i), omega arith, omega arith, omega arith)

@@ -21,7 +21,7 @@ use Rattle.scores.specs.Scale.{onScale, half, place, spot, scoreOf, scor
 use Rattle.scores.specs.Inner.{FirstOff, FaultAt}
 use Rattle.scores.proofs.Checking.{fine-first}
 use Rattle.scores.proofs.Squares.{each-at}
-use Rattle.scores.proofs.Places.{place-below, place-row, place-later-column, place-later-row}
+use Rattle.scores.proofs.Places.{place-onto, place-below, place-row, place-later-column, place-later-row}
 
 -- nothing is found where nothing is found below n
 pub quiet-all : (n : ℕ) (f : ℕ → List Finding) → ((k : ℕ) → k < n → firstOf (f k) ≡ Fine) → firstOf (each n f) ≡ Fine
@@ -101,6 +101,11 @@ module _ (n : ℕ) (scores : List ℤ) where
       go : (i < j) ⊎ (j ≤ i) → onScale (scoreOf n scores i j) ≡ true
       go (inl p) = up-on i j p hj e
       go (inr p) = ap onScale (score-mirror i j apart) ∙ up-on j i (omega arith) hi e
+
+  pub each-on : Fine ≡ scoresOff n scores → (k : ℕ) → k < half n → on k ≡ true
+  each-on e k h =
+      let (i, j, up, hj, at) = place-onto n k h in
+      ap on (sym at) ∙ ap onScale (sym (score-place i j up)) ∙ up-on i j up hj e
 
   -- no score is off
   pub scores-fine : (r : ℕ) → FirstOff on (half n) r → half n ≤ r → Fine ≡ scoresOff n scores

@@ -1,8 +1,8 @@
 -- The sheet: its bytes, and what is read from bytes ("The sheet"). Assumes nothing.
 use mathlib.Core.Path.{_≡_}
-use Prim.Native.Nat.{ℕ, zero, suc, _+_, _*_, _-_, _/_, _%_}
+use Prim.Native.Nat.{ℕ, zero, suc, _+_, _*_, _-_, _/_, _%_, _<_}
 use mathlib.Core.List.{List, [], _∷_, _++_}
-use lib.ListN.{length, take, drop}
+use lib.ListN.{length, getD, take, drop}
 use lib.IntN.{ℤ}
 use mir.Syntax.{w16}
 use mir.Val.{ofZ, toZ}
@@ -38,6 +38,10 @@ sheetBytes notes scores n t = notes ++ scoreBytes scores ++ trailer (length note
 -- "The length is exactly p + n(n-1) + 8"
 abbrev pub sheetLength : ℕ → ℕ → ℕ
 sheetLength p n = p + n * (n - 1) + 8
+
+-- every lent `&[u8]` is a list of bytes
+abbrev pub AreBytes : List ℕ → Type 0
+AreBytes xs = (k : ℕ) → getD xs k 0 < 256
 
 -- the number in the k bytes of a sheet that begin at a place
 unfoldable pub field : List ℕ → ℕ → ℕ → ℕ
