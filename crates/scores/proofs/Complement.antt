@@ -1,7 +1,7 @@
 -- Signed 16-bit numbers by unsigned ones: a number and its bits, the same number counted from -32,768, the scale, and the
 -- distance of two numbers. By cases on the sign, then linear arithmetic. Assumes nothing.
 use mathlib.Core.Path.{_≡_, refl, sym, _∙_, ap}
-use mathlib.Core.Logic.{⊎-elim}
+use mathlib.Core.Logic.{⊎-elim, _≢_}
 use mathlib.Core.Bool.{true, false, cond, _&&_}
 use Prim.Native.Nat.{ℕ, zero, suc, _+_, _-_, _≤_, _<_}
 use native.Mathlib.Nat.{zero-add}
@@ -89,16 +89,17 @@ module _ (s t : ℤ) (f : SFits w16 s) (g : SFits w16 t) where
   unfolding priceOf
   price-at d e = ap (λ x. pick (eqb x 0) 1 x) (distance-lift s t f g ∙ e)
 
-  pub price-under : lift s < lift t → lift t - lift s ≡ priceOf s t
-  price-under h =
-      sym (price-at (lift t - lift s) (omega arith) ∙ pick-false 1 (lift t - lift s) (ne-eqb (lift t - lift s) 0 (λ e. omega arith)))
+  pub price-tie : lift s ≡ lift t → 1 ≡ priceOf s t
+  price-tie e = sym (price-at 0 (omega arith))
 
-  pub price-over : lift t < lift s → lift s - lift t ≡ priceOf s t
-  price-over h =
-      sym (price-at (lift s - lift t) (omega arith) ∙ pick-false 1 (lift s - lift t) (ne-eqb (lift s - lift t) 0 (λ e. omega arith)))
+  apart : (d : ℕ) → (lift s - lift t) + (lift t - lift s) ≡ d → d ≢ 0 → d ≡ priceOf s t
+  apart d e some = sym (price-at d e ∙ pick-false 1 d (ne-eqb d 0 some))
 
-  pub price-tie : lift t ≤ lift s → lift s ≤ lift t → 1 ≡ priceOf s t
-  price-tie h k = sym (price-at 0 (omega arith))
+  pub price-under : {a b : ℕ} → a ≡ lift s → b ≡ lift t → a < b → b - a ≡ priceOf s t
+  price-under {a} {b} ea eb h = apart (b - a) (omega arith) (λ e. omega arith)
+
+  pub price-over : {a b : ℕ} → a ≡ lift s → b ≡ lift t → b ≤ a → a ≢ b → a - b ≡ priceOf s t
+  price-over {a} {b} ea eb h d = apart (a - b) (omega arith) (λ e. omega arith)
 
 -- a number of the type, through its bits and back
 pub back : (z : ℤ) → mag z < 32768 → toZ w16 (ofZ w16 z) ≡ z

@@ -18,3 +18,4 @@ pub mod Passes
 pub mod Determined
 pub mod RoundTrip
 pub mod Rewriting
+pub mod Figures

@@ -6,11 +6,12 @@ use mathlib.Core.List.{List, [], _∷_, _++_}
 use Prim.Native.Nat.{ℕ, zero, suc, _+_, _*_, _/_, _%_, _≤_, _<_}
 use native.Mathlib.Nat.{suc-mul, zero-mul, mul-le-mul-right, mod-lt, div-add-mod', div-lt-iff-lt-mul}
 use native.Mathlib.Omega.{arith}
-use lib.ListN.{length, getD, length-append, List·getD-append}
-use lib.Seq.{getD-append-add, getD-at}
+use lib.ListN.{length, getD, set, length-append, List·getD-append}
+use lib.Seq.{paste, getD-append-add, getD-at}
 use Rattle.bits.proofs.Truth.{below}
 use Rattle.graph.specs.Each.{each}
 use Rattle.scores.specs.Scale.{square}
+use Rattle.scores.proofs.Pasting.{one-more}
 
 module _ {A : Type 0} where
   pub length-each : (n : ℕ) (f : ℕ → A) → length (each n (λ k. f k ∷ [])) ≡ n
@@ -77,7 +78,14 @@ row-column n c h =
     some zero c h = absurd (omega (arith, zero-mul 0))
     some (suc n) c h = omega arith
 
-pub square-entry : (n : ℕ) (f : ℕ → ℕ → ℕ) (c : ℕ) → c < n * n → getD (square n f) c 0 ≡ f (c / n) (c % n)
+square-entry : (n : ℕ) (f : ℕ → ℕ → ℕ) (c : ℕ) → c < n * n → getD (square n f) c 0 ≡ f (c / n) (c % n)
 square-entry n f c h =
     let at = row-column n c h in
     ap (λ x. getD (square n f) x 0) (sym (div-add-mod' c n)) ∙ square-at n f (c / n) (c % n) (at .0) (at .1)
+
+-- a matrix written entry by entry: one more
+pub square-more :
+    (n : ℕ) (f : ℕ → ℕ → ℕ) (old : List ℕ) → n * n ≤ length old → {now : List ℕ} (c : ℕ) → now ≡ paste old 0 (square n f) c →
+    {v : ℕ} → c < n * n → v ≡ f (c / n) (c % n) → set now c v ≡ paste old 0 (square n f) (c + 1)
+square-more n f old room c so-far h e =
+    one-more old (square n f) (length-square n f) room c so-far 0 h (e ∙ sym (square-entry n f c h))

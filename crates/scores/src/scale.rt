@@ -13,6 +13,7 @@ ghost use Rattle.scores.specs.Inner.{FirstOff, FaultAt};
 use crate::signed;
 use graph::Finding;
 
+// "Scores and threshold t lie in -5,000 to 5,000."
 pub fn on_scale(s: i16) -> bool
     ensures { λ r. ⌜ r ≡ onScale s ⌝ }
 {
@@ -22,24 +23,26 @@ pub fn on_scale(s: i16) -> bool
     s <= 5000
 }
 
+// "A pair is an edge when s > t."
 pub fn is_edge(s: i16, t: i16) -> bool
     ensures { λ r. ⌜ r ≡ edgeOf s t ⌝ }
 {
     t < s
 }
 
+// The distance between s and t, and 1 where they are equal.
 pub fn price(s: i16, t: i16) -> u16
     ensures { λ r. ⌜ r ≡ priceOf s t ⌝ }
 {
     let a = signed::lifted(s);
     let b = signed::lifted(t);
+    if a == b {
+        return 1;
+    }
     if a < b {
         return b - a;
     }
-    if b < a {
-        return a - b;
-    }
-    1
+    a - b
 }
 
 // n(n-1)/2, the number of pairs.

@@ -10,8 +10,8 @@ use mir.Val.{ofZ, toZ}
 use mir.ValLaws.{toZ-ofZ}
 use native.Mathlib.Nat.{mul-le-mul}
 use native.Mathlib.Omega.{arith}
-use Rattle.scores.proofs.Pasting.{so-long, one-more, complete}
-use Rattle.scores.proofs.Squares.{row-column, length-square, square-entry}
+use Rattle.scores.proofs.Pasting.{so-long, complete}
+use Rattle.scores.proofs.Squares.{row-column, length-square, square-more}
 use Rattle.scores.proofs.draw.draw.Statement.{statement}
 use Rattle.scores.proofs.draw.draw.Tie as tie
 use Rattle.scores.specs.Scale.{edgeByte, priceEntry, square}
@@ -107,8 +107,8 @@ loop-again c =
     let xs : List ℤ = o .args .scores .now in
     let more = c .before .before .loop-test .taken in (
       omega arith,
-      one-more (o .args .graph .now) (square n (edgeByte n t xs)) (length-square n (edgeByte n t xs)) (o .pre .1 .1 .0) (l .c) (l .inv .1) 0 more (c .before .edge-entry .ensures ∙ sym (square-entry n (edgeByte n t xs) (l .c) more)),
-      one-more (o .args .prices .now) (square n (priceEntry n t xs)) (length-square n (priceEntry n t xs)) (o .pre .1 .1 .1) (l .c) (l .inv .2) 0 more (c .price-entry .ensures ∙ sym (square-entry n (priceEntry n t xs) (l .c) more)),
+      square-more n (edgeByte n t xs) (o .args .graph .now) (o .pre .1 .1 .0) (l .c) (l .inv .1) more (c .before .edge-entry .ensures),
+      square-more n (priceEntry n t xs) (o .args .prices .now) (o .pre .1 .1 .1) (l .c) (l .inv .2) more (c .price-entry .ensures),
     )
 
 same-length : tie.Need-same-length Inv-loop μ-loop
