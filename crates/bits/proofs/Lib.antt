@@ -1,1 +1,6 @@
+pub mod Counting
+pub mod Digit
+pub mod Lowest
+pub mod Mask
+pub mod Scan
 pub mod Truth

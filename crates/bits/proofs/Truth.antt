@@ -1,10 +1,13 @@
 -- Small laws of tests that every floor uses: a test with its equation, `&&`, `||` and `not` taken apart and put together.
+-- Two numbers compared, with the fact of each case.
 -- Tests are equations with `true` or `false`. Assumes nothing.
 use mathlib.Core.Path.{_≡_, refl, sym, _∙_, ap}
-use mathlib.Core.Logic.{_⊎_, inl, inr}
+use mathlib.Core.Logic.{_⊎_, inl, inr, _≢_}
 use mathlib.Core.Bool.{Bool, true, false, not, _&&_, _||_}
-use Prim.Native.Nat.{ℕ}
+use Prim.Native.Nat.{ℕ, _≤_, _<_}
 use native.Mathlib.Omega.{arith}
+use borrow.Author.Tests.{ltb-true, ltb-false, eqb-true, eqb-false}
+use lib.Dec.{ltb, eqb}
 use Rattle.bits.specs.Choice.{pick}
 
 -- a test does not pass and fail
@@ -63,6 +66,11 @@ pub and-off-right : (a : Bool) {b : Bool} → b ≡ false → (a && b) ≡ false
 and-off-right true q = q
 and-off-right false q = refl
 
+-- a part that passes may be left out
+pub and-on : (a : Bool) {b : Bool} → b ≡ true → (a && b) ≡ a
+and-on true q = q
+and-on false q = refl
+
 pub or-left : {a : Bool} (b : Bool) → a ≡ true → (a || b) ≡ true
 or-left b p = ap (λ x. x || b) p
 
@@ -97,3 +105,18 @@ pick-true x y p = ap (λ t. pick t x y) p
 
 pub pick-false {ℓ} : {A : Type ℓ} {b : Bool} (x y : A) → b ≡ false → pick b x y ≡ y
 pick-false x y p = ap (λ t. pick t x y) p
+
+-- two numbers compared
+pub below : (a b : ℕ) → (a < b) ⊎ (b ≤ a)
+below a b = go (which (ltb a b))
+  where
+    go : (ltb a b ≡ true) ⊎ (ltb a b ≡ false) → (a < b) ⊎ (b ≤ a)
+    go (inl e) = inl (ltb-true a b e)
+    go (inr e) = inr (ltb-false a b e)
+
+pub equal : (a b : ℕ) → (a ≡ b) ⊎ (a ≢ b)
+equal a b = go (which (eqb a b))
+  where
+    go : (eqb a b ≡ true) ⊎ (eqb a b ≡ false) → (a ≡ b) ⊎ (a ≢ b)
+    go (inl e) = inl (eqb-true a b e)
+    go (inr e) = inr (eqb-false a b e)

@@ -1,24 +1,21 @@
+-- `bits::from` meets its contract: `bit-from` at 64 digits, and at i = 64 no bit is asked for. Assumes nothing.
 use borrow.Author.Needs.{needs}
+use native.Mathlib.Omega.{arith}
+use Rattle.bits.proofs.Mask.{bit-from, bit-from-none}
 use Rattle.bits.proofs.from.Statement.{statement}
 use Rattle.bits.proofs.from.Tie as tie
-use Rattle.bits.proofs.from.Reads as reads
-use Rattle.bits.proofs.from.Lts as lts
 
--- src/lib.rt:85:9
 returns : tie.Need-returns
-returns c = ?
+returns c j = bit-from-none 64 (c .before .args .i) j (omega arith) (omega arith)
 
--- src/lib.rt:87:6
 shr-result : tie.Need-shr-result
 shr-result c = search needs
 
--- src/lib.rt:87:5
 shl-result : tie.Need-shl-result
 shl-result c = search needs
 
--- src/lib.rt:80:1
 returns-2 : tie.Need-returns-2
-returns-2 c = ?
+returns-2 c j = bit-from 64 (c .before .args .i) j (omega arith)
 
 pub from-spec : {M : Type 1} → statement M
 from-spec = tie.close (tie.spec returns shr-result shl-result returns-2)

@@ -1,15 +1,18 @@
+-- `bits::low` meets its contract: the trailing zeros end at the lowest set bit. Assumes nothing.
+use borrow.Author.Needs.{needs}
+use native.Mathlib.Omega.{arith}
+use lib.Count.{trailingZeros}
+use Rattle.bits.specs.Word.{Lowest}
+use Rattle.bits.proofs.Lowest.{trailing-lowest}
 use Rattle.bits.proofs.low.Statement.{statement}
 use Rattle.bits.proofs.low.Tie as tie
-use Rattle.bits.proofs.low.Reads as reads
-use Rattle.bits.proofs.low.Lts as lts
 
--- src/lib.rt:40:5
 cast-result : tie.Need-cast-result
-cast-result c = ?
+cast-result c =
+    let l : Lowest (c .args .w) (trailingZeros 64 (c .args .w)) = trailing-lowest (c .pre) (omega arith) in omega (arith, l .within)
 
--- src/lib.rt:36:1
 returns : tie.Need-returns
-returns c = ?
+returns c = trailing-lowest (c .pre) (omega arith)
 
 pub low-spec : {M : Type 1} → statement M
 low-spec = tie.close (tie.spec cast-result returns)

@@ -1,15 +1,15 @@
+-- `bits::ones_of` meets its contract: the machine's count of a word's ones is `count` of its bits. Assumes nothing.
+use native.Mathlib.Omega.{arith}
+use Rattle.bits.proofs.Lowest.{ones-count}
+use lib.Count.{ones-le}
 use Rattle.bits.proofs.ones_of.Statement.{statement}
 use Rattle.bits.proofs.ones_of.Tie as tie
-use Rattle.bits.proofs.ones_of.Reads as reads
-use Rattle.bits.proofs.ones_of.Lts as lts
 
--- src/lib.rt:55:5
 cast-result : tie.Need-cast-result
-cast-result c = ?
+cast-result c = omega (arith, ones-le 64 (c .args .w) (omega arith))
 
--- src/lib.rt:52:1
 returns : tie.Need-returns
-returns c = ?
+returns c = ones-count 64 (c .args .w) (omega arith)
 
 pub ones-of-spec : {M : Type 1} → statement M
 ones-of-spec = tie.close (tie.spec cast-result returns)

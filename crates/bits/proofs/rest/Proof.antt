@@ -1,16 +1,14 @@
+-- `bits::rest` meets its contract: `w & (w - 1)` is the word with its lowest set bit cleared. Assumes nothing.
 use borrow.Author.Needs.{needs}
+use Rattle.bits.proofs.Lowest.{cleared}
 use Rattle.bits.proofs.rest.Statement.{statement}
 use Rattle.bits.proofs.rest.Tie as tie
-use Rattle.bits.proofs.rest.Reads as reads
-use Rattle.bits.proofs.rest.Lts as lts
 
--- src/lib.rt:48:10
 sub-result : tie.Need-sub-result
 sub-result c = search needs
 
--- src/lib.rt:44:1
 returns : tie.Need-returns
-returns c = ?
+returns c = cleared (c .pre)
 
 pub rest-spec : {M : Type 1} → statement M
 rest-spec = tie.close (tie.spec sub-result returns)

@@ -1,0 +1,3 @@
+pub mod Finite
+pub mod Orders
+pub mod Parents
