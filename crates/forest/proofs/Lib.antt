@@ -1,3 +1,5 @@
 pub mod Finite
 pub mod Orders
 pub mod Parents
+pub mod Degrees
+pub mod Nexts
