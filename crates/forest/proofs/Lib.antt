@@ -1,5 +1,13 @@
+pub mod Ancestors
+pub mod Degrees
 pub mod Finite
+pub mod Fitted
+pub mod Fitting
+pub mod Groups
+pub mod Listed
+pub mod Nested
+pub mod Nexts
 pub mod Orders
 pub mod Parents
-pub mod Degrees
-pub mod Nexts
+pub mod Shape
+pub mod Steps
