@@ -1,14 +1,16 @@
 -- A graph that some forest fits is clean: of three vertices in a path without a third edge the middle one is an ancestor
 -- of both others, and a quad's two middle vertices would make its ends comparable. Assumes nothing.
-use mathlib.Core.Path.{_≡_, refl, sym, _∙_, ap}
-use mathlib.Core.Logic.{_⊎_, inl, inr, _≢_}
+use mathlib.Core.Path.{_≡_}
+use mathlib.Core.Logic.{_⊎_, inl, inr, _≢_, _↔_}
 use mathlib.Core.Bool.{Bool, true, false}
-use Prim.Native.Nat.{ℕ, _<_}
+use Prim.Native.Nat.{ℕ, _<_, _≤_}
 use Rattle.bits.proofs.Truth.{never, fails}
 use Rattle.graph.specs.Graph.{IsGraph}
-use Rattle.graph.specs.Quad.{Clean, isQuad}
-use Rattle.forest.specs.Forest.{Ancestor, near, far, Fits}
+use Rattle.graph.specs.Quad.{Clean}
+use Rattle.forest.specs.Order.{nobody, parent}
+use Rattle.forest.specs.Forest.{Ancestor, Fits, Acyclic}
 use Rattle.forest.proofs.Ancestors.{ancestor-transitive, ancestor-line}
+use Rattle.forest.proofs.Fitting.{parents-acyclic, parents-fit}
 use Rattle.forest.proofs.Shape.{Shape, quad-shape, edge-apart}
 
 module _ {n : ℕ} {e : ℕ → ℕ → Bool} {p : ℕ → ℕ} (graph : IsGraph n e) (fits : Fits n e p) where
@@ -38,3 +40,11 @@ module _ {n : ℕ} {e : ℕ → ℕ → Bool} {p : ℕ → ℕ} (graph : IsGraph
           let b-over-a = middle ha hb hc (s .outer) (s .ab) (s .bc) (s .no-ac) in
           let c-over-b = middle hb hc hd (s .inner) (s .bc) (s .cd) (s .no-bd) in
           never (fits a c ha hc (s .outer) .1 (inr (ancestor-transitive c-over-b b-over-a))) (s .no-ac)
+
+-- so a graph is clean exactly if some forest fits it
+pub clean-fitted : {n : ℕ} {e : ℕ → ℕ → Bool} → IsGraph n e → n ≤ nobody
+    → Clean n e ↔ ((p : ℕ → ℕ) × Acyclic n p × Fits n e p)
+clean-fitted {n} {e} graph room = (
+  λ clean. (parent n e, parents-acyclic graph room, parents-fit graph room clean),
+  λ forest. fitted-clean graph (forest .2),
+)

@@ -1,12 +1,12 @@
 -- In a clean graph the parents of the order fit: the ancestors of a vertex are exactly its neighbours that come before it,
 -- since these form a chain and the parent is the last of them. In any graph the parents make trees. Assumes nothing.
-use mathlib.Core.Path.{_≡_, refl, sym, _∙_, ap, subst}
-use mathlib.Core.Logic.{_⊎_, inl, inr, ⊎-elim, _≢_}
-use mathlib.Core.Bool.{Bool, true, false}
+use mathlib.Core.Path.{_≡_, refl, sym, _∙_, ap}
+use mathlib.Core.Logic.{inl, inr, ⊎-elim, _≢_}
+use mathlib.Core.Bool.{Bool, true}
 use Prim.Native.Nat.{ℕ, zero, suc, _<_, _≤_}
 use native.Mathlib.Omega.{arith}
 use Rattle.bits.specs.Choice.{count}
-use Rattle.bits.proofs.Truth.{never, fails}
+use Rattle.bits.proofs.Truth.{never}
 use Rattle.bits.proofs.Counting.{count-less}
 use Rattle.graph.specs.Graph.{IsGraph}
 use Rattle.graph.specs.Quad.{Clean}
@@ -15,7 +15,7 @@ use Rattle.forest.specs.Forest.{Ancestor, near, far, Fits, Acyclic}
 use Rattle.forest.proofs.Finite.{equal-or-not}
 use Rattle.forest.proofs.Orders.{before-degree, before-asymmetric, before-irreflexive, before-transitive, before-total}
 use Rattle.forest.proofs.Parents.{IsParent, orphan, child, parent-is}
-use Rattle.forest.proofs.Shape.{edge-apart, edge-mirror}
+use Rattle.forest.proofs.Shape.{edge-mirror}
 use Rattle.forest.proofs.Nested.{nested}
 
 -- u is a neighbour of v that comes before it
@@ -50,8 +50,7 @@ module _ {n : ℕ} {e : ℕ → ℕ → Bool} (graph : IsGraph n e) (room : n �
   module _ (clean : Clean n e) where
     -- who stands above one that stands above v stands above v
     pub above-transitive : {u v w : ℕ} → Above n e u v → Above n e w u → Above n e w v
-    above-transitive {u} {v} {w} a b =
-        record { joined = edge-mirror graph (nested graph clean (edge-mirror graph (b .joined)) (before-degree n e w u (b .earlier)) v (edge-mirror graph (a .joined)) apart); earlier = early }
+    above-transitive {u} {v} {w} a b = record { joined = edge-mirror graph beside; earlier = early }
       where
         early : before n e w v ≡ true
         early = before-transitive n e w u v (b .earlier) (a .earlier)
@@ -59,13 +58,21 @@ module _ {n : ℕ} {e : ℕ → ℕ → Bool} (graph : IsGraph n e) (room : n �
         apart : v ≢ w
         apart same = never (ap (before n e w) (sym same) ∙ early) (before-irreflexive n e w)
 
+        beside : e w v ≡ true
+        beside =
+            nested graph clean (edge-mirror graph (b .joined)) (before-degree n e w u (b .earlier)) v
+            (edge-mirror graph (a .joined)) apart
+
     -- those above v form a chain
     pub above-chain : {u v w : ℕ} → Above n e u v → Above n e w v → before n e w u ≡ true → Above n e w u
-    above-chain {u} {v} {w} a b early =
-        record { joined = nested graph clean (edge-mirror graph (a .joined)) (before-degree n e u v (a .earlier)) w (b .joined) apart; earlier = early }
+    above-chain {u} {v} {w} a b early = record { joined = beside; earlier = early }
       where
         apart : w ≢ u
         apart same = never (ap (before n e w) same ∙ early) (before-irreflexive n e w)
+
+        beside : e u w ≡ true
+        beside =
+            nested graph clean (edge-mirror graph (a .joined)) (before-degree n e u v (a .earlier)) w (b .joined) apart
 
     -- the ancestors of v are those above it: each is
     pub ancestor-above : {u v : ℕ} → u < n → Ancestor (parent n e) u v → Above n e u v

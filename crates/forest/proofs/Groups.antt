@@ -2,17 +2,19 @@
 -- one, since the way up meets no vertex twice; there are not two, since the ancestors of a vertex stand in a line.
 -- Assumes nothing.
 use mathlib.Core.Path.{_≡_, refl, sym, _∙_, ap, subst}
-use mathlib.Core.Logic.{_⊎_, inl, inr, ⊎-elim, _≢_}
-use mathlib.Core.Bool.{Bool, true, false, not, _&&_, _||_}
+use mathlib.Core.Logic.{_⊎_, inl, inr, ⊎-elim}
+use mathlib.Core.Bool.{Bool, true, false, not, _||_}
 use Prim.Native.Nat.{ℕ, zero, suc, _<_, _≤_}
 use native.Mathlib.Omega.{arith}
 use lib.Dec.{eqb}
-use borrow.Author.Tests.{eqb-true, eqb-false, eq-eqb, not-true}
+use borrow.Author.Tests.{eqb-true, eq-eqb, not-true}
 use Rattle.bits.specs.Choice.{count}
-use Rattle.bits.proofs.Truth.{never, fails, or-left, or-right, or-out, or-off-left, not-in, not-off}
+use Rattle.bits.proofs.Truth.{never, fails, or-right, or-out, or-off-left, not-in, not-off}
 use Rattle.bits.proofs.Counting.{count-less}
-use Rattle.forest.specs.Order.{nobody}
+use Rattle.graph.specs.Graph.{IsGraph}
+use Rattle.forest.specs.Order.{nobody, parent}
 use Rattle.forest.specs.Forest.{Ancestor, near, far, Acyclic}
+use Rattle.forest.proofs.Parents.{IsParent, orphan, child, parent-is, parent-outside}
 use Rattle.forest.proofs.Ancestors.{ancestor-transitive, ancestor-line, ancestor-of-parent}
 
 -- parents that are vertices or nobody, of vertices alone
@@ -97,3 +99,23 @@ module _ {n : ℕ} {p : ℕ → ℕ} (bounded : Bounded n p) (room : n ≤ nobod
 
     pub root-of : (v : ℕ) → v < n → (r : ℕ) × RootOf n p v r
     root-of v low = walk (suc (count (λ x. true) n)) (λ x. false) v low (λ x t. never t refl) (omega arith)
+
+-- exactly one root has v in its tree
+pub record OneRoot (n : ℕ) (p : ℕ → ℕ) (v : ℕ) : Type 0 where
+  pub root : ℕ
+  pub is : RootOf n p v root
+  pub only : (r : ℕ) → RootOf n p v r → r ≡ root
+
+pub one-root : {n : ℕ} {p : ℕ → ℕ} → Bounded n p → n ≤ nobody → Acyclic n p → (v : ℕ) → v < n → OneRoot n p v
+one-root bounded room acyclic v low =
+    let (r, is) = root-of bounded room acyclic v low in
+    record { root = r; is = is; only = λ s is′. root-unique bounded room is′ is }
+
+-- the parents of the order are such parents
+pub parents-bounded : {n : ℕ} {e : ℕ → ℕ → Bool} → IsGraph n e → n ≤ nobody → Bounded n (parent n e)
+parents-bounded {n} {e} graph room =
+    record { vertex = λ v. go (parent-is n e graph room v); outside = parent-outside n e graph room }
+  where
+    go : {v q : ℕ} → IsParent n e v q → (q ≡ nobody) ⊎ (q < n)
+    go (orphan nought none) = inl nought
+    go (child low beside early others) = inr low

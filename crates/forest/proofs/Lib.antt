@@ -1,4 +1,5 @@
 pub mod Ancestors
+pub mod Counted
 pub mod Degrees
 pub mod Finite
 pub mod Fitted

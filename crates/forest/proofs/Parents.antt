@@ -1,6 +1,6 @@
 -- What `last` finds under a total order, and so who the parent of a vertex is: the last of its neighbours that come before
 -- it, and nobody else. By induction on the numbers looked at. Assumes nothing.
-use mathlib.Core.Path.{_≡_, refl, sym, _∙_, ap, subst}
+use mathlib.Core.Path.{_≡_, refl, sym, _∙_, subst}
 use mathlib.Core.Logic.{_⊎_, inl, inr, _≢_}
 use mathlib.Core.Bool.{Bool, true, false, _&&_, _||_}
 use Prim.Native.Nat.{ℕ, zero, suc, _<_, _≤_}
@@ -113,7 +113,8 @@ module _ (n : ℕ) (e : ℕ → ℕ → Bool) where
       go (last-is (before n e) (λ u. e v u && before n e u v) (before-transitive n e) (before-total n e) n fits)
     where
       go : {p : ℕ} → IsLast (before n e) (λ u. e v u && before n e u v) n p → IsParent n e v p
-      go (none is nowhere) = orphan is (λ u near. fails (λ early. never (and-in near early) (nowhere u (graph .inside v u near .1))))
+      go (none is nowhere) =
+          orphan is (λ u near. fails (λ early. never (and-in near early) (nowhere u (graph .inside v u near .1))))
       go {p} (found low on others) =
           child low (and-left (e v p) (before n e p v) on) (and-right (e v p) (before n e p v) on)
           (λ u near early apart. others u (graph .inside v u near .1) (and-in near early) apart)
@@ -121,3 +122,10 @@ module _ (n : ℕ) (e : ℕ → ℕ → Bool) where
   -- whoever is the parent of v is the one that the order gives
   pub parent-unique : IsGraph n e → n ≤ nobody → {v p : ℕ} → IsParent n e v p → p ≡ parent n e v
   parent-unique graph fits {v} h = same-parent h (parent-is graph fits v)
+
+  -- what is no vertex has no parent
+  pub parent-outside : IsGraph n e → n ≤ nobody → (v : ℕ) → n ≤ v → parent n e v ≡ nobody
+  parent-outside graph fits v out = sym (parent-unique graph fits (orphan refl (λ u near. absurd (inner u near))))
+    where
+      inner : (u : ℕ) → e v u ≡ true → ⊥
+      inner u near = omega (arith, graph .inside v u near .0)
