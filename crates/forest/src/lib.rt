@@ -1,4 +1,14 @@
-// The forest of a clean graph: its entry point, and the recogniser that takes one vertex at a time.
+// The forest of a clean graph: its entry point, over the recogniser that takes one vertex at a time.
+ghost use mathlib.Core.Path.{_≡_};
+ghost use mathlib.Core.List.{_++_, [], _∷_};
+ghost use Prim.Native.Nat.{_*_, _≤_, _<_};
+ghost use lib.ListN.{length, getD, take, drop};
+ghost use lib.Dec.{eqb};
+ghost use Rattle.bits.specs.Choice.{count};
+ghost use Rattle.graph.specs.Each.{each};
+ghost use Rattle.graph.specs.Graph.{edge, wordEdge, IsGraph};
+ghost use Rattle.forest.specs.Order.{parent, nobody};
+ghost use Rattle.forest.specs.Forest.{roots};
 
 mod recogniser;
 
@@ -8,4 +18,45 @@ pub enum Answer {
     Refused { number: u32, row: usize, column: usize },
     Spoiled(graph::Quad),
     Forest { groups: usize },
+}
+
+// The first n parents are copied to the front of the lent list.
+fn copy(parents: [u16; 128], n: usize, out: &mut [u16])
+    requires { ⌜ (length parents ≡ 128) × (n ≤ 128) × (n ≤ length (now out)) ⌝ }
+    ensures { λ _. ⌜ now (out .exit) ≡ take n parents ++ drop n (now (out .entry)) ⌝ }
+{
+    let mut i = 0;
+    while i < n {
+        out[i] = parents[i];
+        i += 1;
+    }
+}
+
+// How many of the first n have no parent.
+fn roots_of(parents: [u16; 128], n: usize) -> usize
+    requires { ⌜ n ≤ 128 ⌝ }
+    ensures { λ r. ⌜ r ≡ count (λ v. eqb (getD parents v 0) nobody) n ⌝ }
+{
+    let mut found = 0;
+    let mut i = 0;
+    while i < n {
+        if parents[i] == 65535 {
+            found += 1;
+        }
+        i += 1;
+    }
+    found
+}
+
+// The forest of a clean graph.
+fn planted(words: &[u64], n: usize, out: &mut [u16]) -> Answer
+    requires { ⌜ (length (now words) ≡ 256) × (n ≤ 128) × (n ≤ length (now out)) × IsGraph n (wordEdge (now words)) ⌝ }
+    ensures { λ r. ⌜ (r ≡ Answer.Forest (roots n (parent n (wordEdge (now (words .entry))))))
+        × (now (out .exit) ≡ each n (λ v. parent n (wordEdge (now (words .entry))) v ∷ []) ++ drop n (now (out .entry))) ⌝ }
+{
+    let parents = recogniser::parents_of(words, n);
+    copy(parents, n, out);
+    Answer::Forest {
+        groups: roots_of(parents, n),
+    }
 }

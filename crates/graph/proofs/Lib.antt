@@ -1,3 +1,4 @@
+<<<<<<< HEAD
 pub mod Listing
 pub mod Ascending
 pub mod Leading
@@ -13,3 +14,9 @@ pub mod Grid
 pub mod Reading
 pub mod Flipping
 pub mod Chord
+=======
+pub mod CheckLaws
+pub mod RowLaws
+pub mod Within
+pub mod WordLaws
+>>>>>>> h-checks
