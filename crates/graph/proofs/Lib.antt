@@ -1,22 +1,19 @@
-<<<<<<< HEAD
-pub mod Listing
-pub mod Ascending
-pub mod Leading
-pub mod Order
-pub mod Facts
-pub mod Places
 pub mod Arrange
-pub mod Once
-pub mod Names
-pub mod Quads
-pub mod Refusals
-pub mod Grid
-pub mod Reading
-pub mod Flipping
-pub mod Chord
-=======
+pub mod Ascending
 pub mod CheckLaws
+pub mod Chord
+pub mod Facts
+pub mod Flipping
+pub mod Grid
+pub mod Leading
+pub mod Listing
+pub mod Names
+pub mod Once
+pub mod Order
+pub mod Places
+pub mod Quads
+pub mod Reading
+pub mod Refusals
 pub mod RowLaws
 pub mod Within
 pub mod WordLaws
->>>>>>> h-checks
