@@ -12,3 +12,4 @@ pub mod Orders
 pub mod Parents
 pub mod Shape
 pub mod Steps
+pub mod Turns
