@@ -13,3 +13,4 @@ pub mod Parents
 pub mod Shape
 pub mod Steps
 pub mod Turns
+pub mod Determined
