@@ -14,3 +14,4 @@ pub mod Shape
 pub mod Steps
 pub mod Turns
 pub mod Determined
+pub mod Answers

@@ -7,17 +7,29 @@ ghost use lib.Dec.{eqb};
 ghost use Rattle.bits.specs.Choice.{count};
 ghost use Rattle.graph.specs.Each.{each};
 ghost use Rattle.graph.specs.Graph.{edge, wordEdge, IsGraph};
+ghost use Rattle.graph.specs.Quad.{quads, first};
+ghost use Rattle.graph.specs.declared.Finding.the-variants.{Fine};
+ghost use Rattle.forest.specs.Answer.{Promise, Meant, refusal};
 ghost use Rattle.forest.specs.Order.{parent, nobody};
 ghost use Rattle.forest.specs.Forest.{roots};
 
 mod recogniser;
 
+use graph::Finding;
+use graph::First;
+
 // What `forest` answers: a refusal with its number and place; the first quad of a graph that is not clean; or a forest,
 // with the number of its groups.
 pub enum Answer {
-    Refused { number: u32, row: usize, column: usize },
+    Refused {
+        number: u32,
+        row: usize,
+        column: usize,
+    },
     Spoiled(graph::Quad),
-    Forest { groups: usize },
+    Forest {
+        groups: usize,
+    },
 }
 
 // The first n parents are copied to the front of the lent list.
@@ -59,4 +71,65 @@ fn planted(words: &[u64], n: usize, out: &mut [u16]) -> Answer
     Answer::Forest {
         groups: roots_of(parents, n),
     }
+}
+
+// The answer for a graph that passed its checks, with room for its forest.
+fn judged(n: usize, g: &[u8], out: &mut [u16]) -> Answer
+    requires { ⌜ (n ≤ 128) × (length (now g) ≡ n * n) × (n ≤ length (now out)) × IsGraph n (edge n (now g)) ⌝ }
+    ensures { λ r. ⌜ (refusal r ≡ Fine) × Meant n (now (g .entry)) (now (out .entry)) r (now (out .exit)) ⌝ }
+{
+    let rows = graph::rows::rows_of(n, g);
+    let words = graph::rows::flat_of(rows);
+    let found = first_quad(&words, n);
+    if let First::At(q) = found {
+        return Answer::Spoiled(q);
+    }
+    planted(&words, n, out)
+}
+
+// The forest of a graph of n vertices, lent as n x n bytes: its parents go to the first n entries of `out`.
+pub fn forest(n: usize, g: &[u8], out: &mut [u16]) -> Answer
+    ensures { λ r. ⌜ Promise n (now (g .entry)) (now (out .entry)) r (now (out .exit)) ⌝ }
+{
+    if 128 < n {
+        return Answer::Refused {
+            number: 1,
+            row: 0,
+            column: 0,
+        };
+    }
+    if g.len() != n * n {
+        return Answer::Refused {
+            number: 2,
+            row: 0,
+            column: 0,
+        };
+    }
+    let found = graph::check::entries_of(n, g);
+    if let Finding::Fault {
+        number,
+        row,
+        column,
+    } = found {
+        return Answer::Refused {
+            number,
+            row,
+            column,
+        };
+    }
+    if out.len() < n {
+        return Answer::Refused {
+            number: 10,
+            row: 0,
+            column: 0,
+        };
+    }
+    judged(n, g, out)
+}
+
+fn first_quad(words: &[u64], n: usize) -> First
+    requires { ⌜ (length (now words) ≡ 256) × (n ≤ 128) × IsGraph n (wordEdge (now words)) ⌝ }
+    ensures { λ r. ⌜ r ≡ first (quads n (wordEdge (now (words .entry)))) ⌝ }
+{
+    First::Clear
 }

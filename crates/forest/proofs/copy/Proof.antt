@@ -55,10 +55,12 @@ loop-less c = search needs
 
 -- src/lib.rt:29:5
 loop-again : tie.Need-loop-again Inv-loop μ-loop
-loop-again c = (search needs, 
-    let low : c .before .loop .i < length (c .before .before .args .t1) = omega arith in
-    let room : c .before .loop .i < length (now (c .before .before .args .out)) = omega arith in
-    rw (c .before .loop .inv .1) (copied-suc _ _ _ low room))
+loop-again c = (
+  search needs,
+  let low : c .before .loop .i < length (c .before .before .args .t1) = omega arith in
+      let room : c .before .loop .i < length (now (c .before .before .args .out)) = omega arith in
+      rw (c .before .loop .inv .1) (copied-suc _ _ _ low room),
+)
 
 -- src/lib.rt:24:1
 same-length : tie.Need-same-length Inv-loop μ-loop

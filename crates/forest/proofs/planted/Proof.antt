@@ -35,9 +35,10 @@ returns : tie.Need-returns
 returns c =
     let a = c .before .before .before .before .before .before .before .before .args in
     let made = c .before .before .before .before .before .parents-of in
-    let fits : a .n ≤ length (made .result) = let long = made .ensures .0 in omega arith in
-    (ap Forest (c .roots-of .ensures ∙ front-roots (a .n) (made .result) _ fits (made .ensures .1)),
-    front-left (a .n) (made .result) _ fits (made .ensures .1) (now (a .out)) _ (c .before .before .before .copy .ensures))
+    let fits : a .n ≤ length (made .result) = let long = made .ensures .0 in omega arith in (
+      ap Forest (c .roots-of .ensures ∙ front-roots (a .n) (made .result) _ fits (made .ensures .1)),
+      front-left (a .n) (made .result) _ fits (made .ensures .1) (now (a .out)) _ (c .before .before .before .copy .ensures),
+    )
 
 pub planted-spec : {M : Type 1} → statement M
 planted-spec =

@@ -48,13 +48,15 @@ loop-less c = search needs
 
 -- src/lib.rt:42:5
 loop-again : tie.Need-loop-again Inv-loop μ-loop
-loop-again c = (search needs, 
-    ⊎-elim (λ w. w .1 ∙ count-on _ (c .before .before .loop .inv .1) (eq-eqb _ _ (w .0 .taken)))
-    (λ w. w .1 ∙ count-off _ (c .before .before .loop .inv .1) (ne-eqb _ _ (w .0 .left))) (c .if1 .came))
+loop-again c = (
+  search needs,
+  ⊎-elim (λ w. w .1 ∙ count-on _ (c .before .before .loop .inv .1) (eq-eqb _ _ (w .0 .taken)))
+      (λ w. w .1 ∙ count-off _ (c .before .before .loop .inv .1) (ne-eqb _ _ (w .0 .left))) (c .if1 .came),
+)
 
 -- src/lib.rt:36:1
 returns : tie.Need-returns Inv-loop μ-loop
-returns c = 
+returns c =
     let ends : c .before .loop .i ≡ c .before .before .args .n = omega arith in
     c .before .loop .inv .1 ∙ ap (count _) ends
 
