@@ -4,3 +4,4 @@ pub mod Graph
 pub mod Check
 pub mod Price
 pub mod Quad
+pub mod Rows
