@@ -1,4 +1,5 @@
 pub mod Counting
+pub mod Determined
 pub mod Digit
 pub mod Lowest
 pub mod Mask

@@ -1,6 +1,6 @@
 -- Lists in which every element comes before all that stand behind it, in any order: appended, and made by `each`; the head
 -- comes before the others, and what stands further in front before what stands behind. Assumes nothing.
-use mathlib.Core.Path.{_≡_, refl, _∙_}
+use mathlib.Core.Path.{_≡_, refl}
 use mathlib.Core.Logic.{_⊎_, inl, inr}
 use mathlib.Core.Bool.{Bool, true, false}
 use mathlib.Core.List.{

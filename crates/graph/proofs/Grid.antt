@@ -8,8 +8,16 @@ use Rattle.graph.specs.declared.Finding.{Finding}
 use Rattle.graph.specs.declared.Finding.the-variants.{Fine, Fault}
 use Rattle.graph.specs.Each.{each}
 use Rattle.graph.specs.Refusal.{firstOf}
-use Rattle.graph.proofs.Leading.{Leads, firstOf-leading, each-nothing, nothing-each, each-leads, leads-each}
-use Rattle.graph.proofs.Refusals.{fault-not-fine, firstOf-single}
+use Rattle.graph.proofs.Leading.{
+  Leads,
+  fault-not-fine,
+  firstOf-leading,
+  each-nothing,
+  nothing-each,
+  each-leads,
+  leads-each,
+}
+use Rattle.graph.proofs.Refusals.{firstOf-single}
 
 -- the findings of row i, and of all rows
 abbrev pub line : ℕ → (ℕ → ℕ → Finding) → ℕ → List Finding
@@ -65,7 +73,8 @@ module _ (n : ℕ) (f : ℕ → ℕ → Finding) where
   pub grid-fault : OwnPlace f → {k i j : ℕ} → firstOf (grid n f) ≡ Fault k i j → AtFault n f k i j
   grid-fault own {k} {i} {j} p =
       let L = leads-each firstOf-leading n (line n f) (Fault k i j) fault-not-fine p in
-      inner (L .place) (L .within) (L .earlier) (leads-each firstOf-leading n (λ y. f (L .place) y ∷ []) (Fault k i j) fault-not-fine (L .says))
+      let M = leads-each firstOf-leading n (λ y. f (L .place) y ∷ []) (Fault k i j) fault-not-fine (L .says) in
+      inner (L .place) (L .within) (L .earlier) M
     where
       inner :
           (x : ℕ) → x < n → ((i′ : ℕ) → i′ < x → firstOf (line n f i′) ≡ Fine) →

@@ -85,21 +85,27 @@ module _ {A M : Type 0} {nothing : M} {h : List A → M} (lead : Leading nothing
           let l = L .within in
           record { place = L .place; within = omega arith; says = L .says; earlier = L .earlier }
 
+pub at-not-clear : {q : Quad} → At q ≢ Clear
+at-not-clear {q} p = let z : _≡_ {A = ℕ} 0 1 = cc in omega arith
+
 -- the first quad of a listing
 pub first-leading : Leading Clear first
 first-leading = record { empty = refl; skips = skips; stays = stays; decides = decides }
   where
     skips : (xs ys : List Quad) → first xs ≡ Clear → first (xs ++ ys) ≡ first ys
     skips [] ys p = refl
-    skips (x ∷ xs) ys p = absurd (let z : _≡_ {A = ℕ} 0 1 = cc in omega arith)
+    skips (x ∷ xs) ys p = absurd (at-not-clear p)
 
     stays : (xs ys : List Quad) → first xs ≢ Clear → first (xs ++ ys) ≡ first xs
     stays [] ys p = absurd (p refl)
     stays (x ∷ xs) ys p = refl
 
     decides : (m : First) → (m ≡ Clear) ⊎ (m ≢ Clear)
-    decides (At q) = inr (λ p. let z : _≡_ {A = ℕ} 0 1 = cc in omega arith)
+    decides (At q) = inr at-not-clear
     decides Clear = inl refl
+
+pub fault-not-fine : {k i j : ℕ} → Fault k i j ≢ Fine
+fault-not-fine {k} {i} {j} p = let z : _≡_ {A = ℕ} 0 1 = cc in omega arith
 
 -- the first check that finds something
 pub firstOf-leading : Leading Fine firstOf
@@ -109,7 +115,7 @@ firstOf-leading = record { empty = refl; skips = skips; stays = stays; decides =
     skips : (xs ys : List Finding) → firstOf xs ≡ Fine → firstOf (xs ++ ys) ≡ firstOf ys
     skips [] ys p = refl
     skips (Fine ∷ xs) ys p = skips xs ys p
-    skips (Fault k i j ∷ xs) ys p = absurd (let z : _≡_ {A = ℕ} 0 1 = cc in omega arith)
+    skips (Fault k i j ∷ xs) ys p = absurd (fault-not-fine p)
 
     stays : (xs ys : List Finding) → firstOf xs ≢ Fine → firstOf (xs ++ ys) ≡ firstOf xs
     stays [] ys p = absurd (p refl)
@@ -117,5 +123,5 @@ firstOf-leading = record { empty = refl; skips = skips; stays = stays; decides =
     stays (Fault k i j ∷ xs) ys p = refl
 
     decides : (m : Finding) → (m ≡ Fine) ⊎ (m ≢ Fine)
-    decides (Fault k i j) = inr (λ p. let z : _≡_ {A = ℕ} 0 1 = cc in omega arith)
+    decides (Fault k i j) = inr fault-not-fine
     decides Fine = inl refl

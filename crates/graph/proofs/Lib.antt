@@ -19,3 +19,5 @@ pub mod Quads
 pub mod Refusals
 pub mod Grid
 pub mod Reading
+pub mod Flipping
+pub mod Chord

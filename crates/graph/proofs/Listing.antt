@@ -1,6 +1,6 @@
 -- Laws of `each` and `only`: what they hold, when two are equal, when they are empty, and when they ascend in an order.
 -- By induction on the count, through the laws of `++`. Assumes nothing.
-use mathlib.Core.Path.{_≡_, refl, sym, _∙_, ap, ap₂}
+use mathlib.Core.Path.{_≡_, refl, _∙_, ap, ap₂}
 use mathlib.Core.Logic.{_⊎_, inl, inr}
 use mathlib.Core.Bool.{Bool, true, false}
 use mathlib.Core.List.{
@@ -12,27 +12,20 @@ use mathlib.Core.List.{
   List·Memᴰ·head,
   List·Memᴰ·tail,
   List·Memᴰ·not-nil,
-  List·Memᴰ·cases-cons,
   Memᴰ·append-left,
   Memᴰ·append-right,
   List·Memᴰ·append-cases,
   List·Memᴰ·eq-of-singleton,
 }
 use Prim.Native.Nat.{ℕ, zero, suc, _<_}
+use native.Mathlib.Nat.{eq-or-lt-of-le}
 use native.Mathlib.Omega.{arith}
 use lib.ListN.{length, getD}
-use lib.Dec.{eqb}
-use borrow.Author.Tests.{eqb-true, eqb-false}
-use Rattle.bits.proofs.Truth.{never, which}
 use Rattle.graph.specs.Each.{each, only}
 
 -- below suc n: the last one, or below n
 pub below-suc : {k n : ℕ} → k < suc n → (k ≡ n) ⊎ (k < n)
-below-suc {k} {n} l = go (which (eqb k n))
-  where
-    go : (eqb k n ≡ true) ⊎ (eqb k n ≡ false) → (k ≡ n) ⊎ (k < n)
-    go (inl p) = inl (eqb-true k n p)
-    go (inr p) = let d = eqb-false k n p in inr (omega arith)
+below-suc l = eq-or-lt-of-le (omega arith)
 
 module _ {A : Type 0} where
   pub in-each : {x : A} (n : ℕ) (f : ℕ → List A) (k : ℕ) → k < n → List·Memᴰ x (f k) → List·Memᴰ x (each n f)

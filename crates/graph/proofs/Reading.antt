@@ -1,6 +1,6 @@
 -- What the checks 3 and 4 say of a matrix: an entry is fine exactly if it is 0 or 1, 0 on the diagonal and equal to its
 -- mirror; the first entry at fault row by row decides; a matrix with no fault is a graph. Assumes nothing.
-use mathlib.Core.Path.{_≡_, refl, sym, _∙_, ap}
+use mathlib.Core.Path.{_≡_, refl, sym, _∙_}
 use mathlib.Core.Logic.{_⊎_, inl, inr, _≢_}
 use mathlib.Core.Bool.{Bool, true, false, not, _&&_, _||_}
 use mathlib.Core.List.{List}
@@ -30,10 +30,9 @@ use Rattle.bits.proofs.Truth.{
 }
 use Rattle.graph.specs.declared.Finding.{Finding}
 use Rattle.graph.specs.declared.Finding.the-variants.{Fine, Fault}
-use Rattle.graph.specs.Refusal.{firstOf}
 use Rattle.graph.specs.Graph.{IsGraph, edge}
 use Rattle.graph.specs.Check.{entry, entries}
-use Rattle.graph.proofs.Refusals.{fault-not-fine}
+use Rattle.graph.proofs.Leading.{fault-not-fine}
 use Rattle.graph.proofs.Grid.{OwnPlace, AtFault, grid-fine, fine-grid, grid-fault, fault-grid}
 
 -- the entry at row i, column j

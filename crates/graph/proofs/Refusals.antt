@@ -1,7 +1,6 @@
 -- "A number is given exactly when its row holds and no number earlier in the call's order does", for any list of checks.
 -- Assumes nothing.
 use mathlib.Core.Path.{_≡_, refl, sym}
-use mathlib.Core.Logic.{_≢_}
 use mathlib.Core.Bool.{Bool, true, false}
 use mathlib.Core.List.{List, [], _∷_}
 use Prim.Native.Nat.{ℕ, zero, suc, _<_}
@@ -10,9 +9,7 @@ use lib.ListN.{getD}
 use Rattle.graph.specs.declared.Finding.{Finding}
 use Rattle.graph.specs.declared.Finding.the-variants.{Fine, Fault}
 use Rattle.graph.specs.Refusal.{row, firstOf}
-
-pub fault-not-fine : {k i j : ℕ} → Fault k i j ≢ Fine
-fault-not-fine {k} {i} {j} p = let z : _≡_ {A = ℕ} 0 1 = cc in omega arith
+use Rattle.graph.proofs.Leading.{fault-not-fine}
 
 -- position k of the checks finds this, and no earlier one finds anything
 pub record Found (xs : List Finding) (number i j : ℕ) : Type 0 where
