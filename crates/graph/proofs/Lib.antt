@@ -6,7 +6,15 @@ pub mod Facts
 pub mod Flipping
 pub mod Grid
 pub mod Leading
+pub mod LevelFirst
+pub mod LevelLeast
+pub mod LevelPairs
+pub mod LevelQuad
+pub mod LevelRows
+pub mod LevelScan
 pub mod Listing
+pub mod MaskRow
+pub mod MaskWord
 pub mod Names
 pub mod Once
 pub mod Order

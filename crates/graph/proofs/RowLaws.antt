@@ -128,12 +128,21 @@ module _ (f : ℕ → ℕ → Bool) where
   pub begun-none : Begun f 0 clear
   begun-none =
       record {
-        shape = record { many = refl; two = λ i h. ap length (clear-row i h); fits = λ i k. rw (clear-word i k) (omega arith) };
-        bits = λ a b ha hb. rw (clear-word a (b / 64)) (bit-zero (b % 64) ∙ sym (and-off-left (f a b) (le-ltb a 0 (omega arith))));
+        shape = record {
+          many = refl;
+          two = λ i h. ap length (clear-row i h);
+          fits = λ i k. rw (clear-word i k) (omega arith);
+        };
+        bits =
+            λ a b ha hb.
+            let none = and-off-left (f a b) (le-ltb a 0 (omega arith)) in
+            rw (clear-word a (b / 64)) (bit-zero (b % 64) ∙ sym none);
       }
 
   -- a row is stored at i
-  pub begun-next : (i : ℕ) (rows : List (List ℕ)) {row : List ℕ} → i < 128 → Begun f i rows → IsRow row (f i) → Begun f (i + 1) (set rows i row)
+  pub begun-next :
+      (i : ℕ) (rows : List (List ℕ)) {row : List ℕ} → i < 128 → Begun f i rows → IsRow row (f i) →
+      Begun f (i + 1) (set rows i row)
   begun-next i rows {row} hi made new =
       record {
         shape = record {
@@ -171,7 +180,8 @@ begun-end {n} {i} {g} {rows} few past made =
     record {
       shape = made .shape;
       edges =
-          within-is 128 (λ a b. bit (getD (getD rows a []) (b / 64) 0) (b % 64)) (edge n g) (λ a b ha hb. made .bits a b ha hb ∙ at a b (below a i))
+          within-is 128 (λ a b. bit (getD (getD rows a []) (b / 64) 0) (b % 64)) (edge n g)
+          (λ a b ha hb. made .bits a b ha hb ∙ at a b (below a i))
           (λ a b h. edge-row n g b (omega arith))
           (λ a b h. edge-column n g a (omega arith));
     }

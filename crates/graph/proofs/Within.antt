@@ -54,7 +54,9 @@ row-ext r s fr fs lr ls same =
     rw (column-word k hb, column-bit k hb) at (same (64 * k + b) (omega arith))))
 
 -- rows are settled by the graph that they give
-pub row-bits : (rows : List (List ℕ)) {i j : ℕ} → i < 128 → j < 128 → rowEdge rows i j ≡ bit (getD (getD rows i []) (j / 64) 0) (j % 64)
+pub row-bits :
+    (rows : List (List ℕ)) {i j : ℕ} → i < 128 → j < 128 →
+    rowEdge rows i j ≡ bit (getD (getD rows i []) (j / 64) 0) (j % 64)
 unfolding rowEdge
 row-bits rows = within-in 128 (λ i j. bit (getD (getD rows i []) (j / 64) 0) (j % 64))
 
@@ -74,7 +76,9 @@ rows-ext {a} {b} A B same =
     sym (row-bits a hi hj) ∙ ap (λ e. e i j) same ∙ row-bits b hi hj))
 
 -- words laid flat are settled by the graph that they give
-pub word-bits : (words : List ℕ) {i j : ℕ} → i < 128 → j < 128 → wordEdge words i j ≡ bit (getD words (2 * i + j / 64) 0) (j % 64)
+pub word-bits :
+    (words : List ℕ) {i j : ℕ} → i < 128 → j < 128 →
+    wordEdge words i j ≡ bit (getD words (2 * i + j / 64) 0) (j % 64)
 unfolding wordEdge
 word-bits words = within-in 128 (λ i j. bit (getD words (2 * i + j / 64) 0) (j % 64))
 
@@ -95,4 +99,5 @@ words-ext {a} {b} A B same =
         let hi : p / 2 < 128 = omega arith in
         let hj : 64 * (p % 2) + k < 128 = omega arith in
         let place : 2 * (p / 2) + (64 * (p % 2) + k) / 64 ≡ p = omega arith in
-        rw (place, column-bit (p % 2) hk) at (sym (word-bits a hi hj) ∙ ap (λ e. e (p / 2) (64 * (p % 2) + k)) same ∙ word-bits b hi hj)
+        let there = ap (λ e. e (p / 2) (64 * (p % 2) + k)) same in
+        rw (place, column-bit (p % 2) hk) at (sym (word-bits a hi hj) ∙ there ∙ word-bits b hi hj)

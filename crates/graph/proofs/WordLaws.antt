@@ -12,10 +12,23 @@ use lib.Dec.{eqb}
 use borrow.Author.Tests.{eq-eqb, ne-eqb, eqb-true}
 use Rattle.bits.specs.Bit.{bit}
 use Rattle.bits.specs.Choice.{pick}
-use Rattle.bits.proofs.Truth.{below, equal, and-left, and-right, and-off-left, and-off-right, same, fails}
+use Rattle.bits.proofs.Truth.{below, equal, and-left, and-right, and-off-left, and-off-right, fails}
 use Rattle.graph.specs.Graph.{rowEdge, wordEdge, flipped, isPair}
 use Rattle.graph.specs.Rows.{AreWords, Flat, OneWay, Toggled}
-use Rattle.graph.proofs.Within.{within-is, words-ext, word-bits, word-row, word-column, row-bits, row-row, row-column}
+use Rattle.graph.proofs.Within.{
+  within-is,
+  words-ext,
+  word-bits,
+  word-row,
+  word-column,
+  row-bits,
+  row-row,
+  row-column,
+}
+
+-- b, toggled where t says so
+abbrev pub flip : Bool → Bool → Bool
+flip t b = pick t (not b) b
 
 -- one word is stored
 pub words-set : {words : List ℕ} {r : ℕ} (p : ℕ) → AreWords words → p < 256 → r < 2 ^ 64 → AreWords (set words p r)
@@ -42,7 +55,8 @@ module _ (rows : List (List ℕ)) where
   -- the two words of row i are stored
   pub copied-next :
       (i : ℕ) (words : List ℕ) {low high : ℕ} → i < 128 → low < 2 ^ 64 → high < 2 ^ 64 → low ≡ getD (getD rows i []) 0 0 →
-      high ≡ getD (getD rows i []) 1 0 → Copied rows i words → Copied rows (i + 1) (set (set words (2 * i) low) (2 * i + 1) high)
+      high ≡ getD (getD rows i []) 1 0 → Copied rows i words →
+      Copied rows (i + 1) (set (set words (2 * i) low) (2 * i + 1) high)
   copied-next i words {low} {high} hi small big first second made =
       record {
         shape = words-set (2 * i + 1) half (omega arith) big;
@@ -105,26 +119,24 @@ module _ (x y : ℕ) (hx : x < 128) (hy : y < 128) (words : List ℕ) where
   -- the word that holds the entry at row x, column y is stored with its bit toggled
   pub one-way :
       (r : ℕ) → AreWords words → r < 2 ^ 64 →
-      ((j : ℕ) → bit r j ≡ pick (eqb j (y % 64)) (not (bit (getD words (2 * x + y / 64) 0) j)) (bit (getD words (2 * x + y / 64) 0) j)) →
+      ((j : ℕ) → bit r j ≡ flip (eqb j (y % 64)) (bit (getD words (2 * x + y / 64) 0) j)) →
       OneWay x y words (set words (2 * x + y / 64) r)
-  one-way r W hr flip =
+  one-way r W hr toggled =
       record { shape = words-set (2 * x + y / 64) W (omega arith) hr; edges = λ i j. edges i j (below i 128) (below j 128) }
     where
-      after : List ℕ
-      after = set words (2 * x + y / 64) r
-
       inner :
           (i j : ℕ) → j < 128 → (2 * i + j / 64 ≡ 2 * x + y / 64) ⊎ (2 * i + j / 64 ≢ 2 * x + y / 64) →
           bit (getD (set words (2 * x + y / 64) r) (2 * i + j / 64) 0) (j % 64) ≡
-          pick (eqb i x && eqb j y) (not (bit (getD words (2 * i + j / 64) 0) (j % 64))) (bit (getD words (2 * i + j / 64) 0) (j % 64))
+          flip (eqb i x && eqb j y) (bit (getD words (2 * i + j / 64) 0) (j % 64))
       inner i j hj (inl e) =
-          rw (e, getD-set-same words (2 * x + y / 64) r 0 (omega (arith, W .many)), ← same-entry i j hj e) (flip (j % 64))
+          rw (e, getD-set-same words (2 * x + y / 64) r 0 (omega (arith, W .many)), ← same-entry i j hj e)
+          (toggled (j % 64))
       inner i j hj (inr d) =
           rw (getD-set-other words (2 * x + y / 64) (2 * i + j / 64) r 0 d, other-entry i j d) refl
 
       edges :
           (i j : ℕ) → (i < 128) ⊎ (128 ≤ i) → (j < 128) ⊎ (128 ≤ j) →
-          wordEdge (set words (2 * x + y / 64) r) i j ≡ pick (eqb i x && eqb j y) (not (wordEdge words i j)) (wordEdge words i j)
+          wordEdge (set words (2 * x + y / 64) r) i j ≡ flip (eqb i x && eqb j y) (wordEdge words i j)
       edges i j (inl hi) (inl hj) =
           rw (word-bits (set words (2 * x + y / 64) r) hi hj, word-bits words hi hj)
           (inner i j hj (equal (2 * i + j / 64) (2 * x + y / 64)))
@@ -136,14 +148,13 @@ module _ (x y : ℕ) (hx : x < 128) (hy : y < 128) (words : List ℕ) where
           rw (off, word-column words i hj) (word-column (set words (2 * x + y / 64) r) i hj)
 
 -- two toggles of different bits, and two of the same
-flip-either : (p q b : Bool) → (p ≡ true → q ≡ true → ⊥) →
-    pick q (not (pick p (not b) b)) (pick p (not b) b) ≡ pick (p || q) (not b) b
+flip-either : (p q b : Bool) → (p ≡ true → q ≡ true → ⊥) → flip q (flip p b) ≡ flip (p || q) b
 flip-either true true b h = absurd (h refl refl)
 flip-either true false b h = refl
 flip-either false true b h = refl
 flip-either false false b h = refl
 
-flip-twice : (p b : Bool) → pick p (not (pick p (not b) b)) (pick p (not b) b) ≡ b
+flip-twice : (p b : Bool) → flip p (flip p b) ≡ b
 flip-twice true true = refl
 flip-twice true false = refl
 flip-twice false b = refl
@@ -164,9 +175,11 @@ both-ways {x} {y} {a} {b} {c} apart there back = record { shape = back .shape; e
         let q = eqb-true i y (and-left (eqb i y) (eqb j x) l) in
         apart (sym p ∙ q)
 
-    at : (i j : ℕ) → wordEdge c i j ≡ pick (isPair x y i j) (not (wordEdge a i j)) (wordEdge a i j)
+    at : (i j : ℕ) → wordEdge c i j ≡ flip (isPair x y i j) (wordEdge a i j)
     at i j =
-        back .edges i j ∙ rw (there .edges i j) (flip-either (eqb i x && eqb j y) (eqb i y && eqb j x) (wordEdge a i j) (apart-at i j))
+        back .edges i j ∙
+        rw (there .edges i j)
+        (flip-either (eqb i x && eqb j y) (eqb i y && eqb j x) (wordEdge a i j) (apart-at i j))
 
 -- the words after a pair is toggled twice are the words before
 pub toggle-toggle : {x y : ℕ} {a b c : List ℕ} → AreWords a → Toggled x y a b → Toggled x y b c → c ≡ a

@@ -5,3 +5,4 @@ pub mod Check
 pub mod Price
 pub mod Quad
 pub mod Rows
+pub mod Levels

@@ -2,6 +2,7 @@
 
 pub mod check;
 pub mod rows;
+pub mod seek;
 
 // What a check finds: nothing, or a number of the table with its place.
 pub enum Finding {

@@ -13,7 +13,9 @@ add-result : tie.Need-add-result
 add-result c = let s = c .before .pre in omega (arith, inside (s .0) (s .1 .1) (c .if1 .taken))
 
 shared-slice-read-result : tie.Need-shared-slice-read-result
-shared-slice-read-result c = let s = c .before .before .pre in omega (arith, inside (s .0) (s .1 .1) (c .before .if1 .taken))
+shared-slice-read-result c =
+    let s = c .before .before .pre in
+    omega (arith, inside (s .0) (s .1 .1) (c .before .if1 .taken))
 
 returns : tie.Need-returns
 returns c = sym (edge-in _ _ (c .before .before .pre .1 .1) (c .before .if1 .taken))

@@ -13,7 +13,8 @@ word-of-requires-2 c κs = search needs
 
 returns : tie.Need-returns
 returns c =
-    row-made _ (omega (arith, c .before .word-of .ok)) (omega (arith, c .word-of2 .ok)) (c .before .word-of .ensures) (c .word-of2 .ensures)
+    row-made _ (omega (arith, c .before .word-of .ok)) (omega (arith, c .word-of2 .ok))
+    (c .before .word-of .ensures) (c .word-of2 .ensures)
 
 pub row-of-spec : {M : Type 1} → statement M
 row-of-spec = tie.close (tie.spec word-of-requires word-of-requires-2 returns)

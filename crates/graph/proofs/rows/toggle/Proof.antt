@@ -16,7 +16,8 @@ same-length c = search needs
 returns : tie.Need-returns
 returns c =
     let first = c .before .before .before .before .before .before in
-    both-ways (first .before .before .before .pre .1 .1 .1) (first .toggle-entry .ensures) (c .before .before .toggle-entry2 .ensures)
+    let apart = first .before .before .before .pre .1 .1 .1 in
+    both-ways apart (first .toggle-entry .ensures) (c .before .before .toggle-entry2 .ensures)
 
 pub toggle-spec : {M : Type 1} → statement M
 toggle-spec =

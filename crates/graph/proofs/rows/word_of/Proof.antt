@@ -1,5 +1,5 @@
--- `graph::rows::word_of` meets its contract. The loop's invariant: the bits below `k` are set as the edges are, the others are
--- clear. Assumes nothing.
+-- `graph::rows::word_of` meets its contract. The loop's invariant: the bits below `k` are the edges, the rest is clear.
+-- Assumes nothing.
 use native.Mathlib.Omega.{arith}
 use Prim.Native.Nat.{_+_, _-_, _≤_}
 use borrow.Author.Needs.{needs}
@@ -35,7 +35,8 @@ loop-less c = search needs
 loop-again : tie.Need-loop-again Inv-loop μ-loop
 loop-again c =
     let at = c .before .before .before in
-    (search needs, part-next _ _ (at .loop .inv .1) (omega (arith, c .with-bit .ok)) (c .before .edge-of .ensures) (c .with-bit .ensures))
+    let on = c .before .edge-of .ensures in
+    (search needs, part-next _ _ (at .loop .inv .1) (omega (arith, c .with-bit .ok)) on (c .with-bit .ensures))
 
 returns : tie.Need-returns Inv-loop μ-loop
 returns c = part-end _ (c .loop-test .left) (c .before .loop .inv .1)
