@@ -146,8 +146,18 @@ fn refusals() {
     tried(b"entry 255", 2, b"\x00\xff\xff\x00", 2);
     tried(b"diagonal 1", 2, b"\x01\x01\x01\x00", 2);
     tried(b"last diagonal 1", 2, b"\x00\x01\x01\x01", 2);
-    tried(b"lopsided at the first place", 3, b"\x00\x01\x00\x00\x00\x00\x00\x00\x00", 3);
-    tried(b"lopsided at the last place", 3, b"\x00\x00\x00\x00\x00\x00\x00\x01\x00", 3);
+    tried(
+        b"lopsided at the first place",
+        3,
+        b"\x00\x01\x00\x00\x00\x00\x00\x00\x00",
+        3,
+    );
+    tried(
+        b"lopsided at the last place",
+        3,
+        b"\x00\x00\x00\x00\x00\x00\x00\x01\x00",
+        3,
+    );
     tried(b"entry 1, mirror 7", 2, b"\x00\x01\x07\x00", 2);
     tried(b"entry 7, mirror 1", 2, b"\x00\x07\x01\x00", 2);
     tried(b"list one short, clean", 2, b"\x00\x01\x01\x00", 1);

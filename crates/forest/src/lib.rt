@@ -7,7 +7,6 @@ ghost use lib.Dec.{eqb};
 ghost use Rattle.bits.specs.Choice.{count};
 ghost use Rattle.graph.specs.Each.{each};
 ghost use Rattle.graph.specs.Graph.{edge, wordEdge, IsGraph};
-ghost use Rattle.graph.specs.Quad.{quads, first};
 ghost use Rattle.graph.specs.declared.Finding.the-variants.{Fine};
 ghost use Rattle.forest.specs.Answer.{Promise, Meant, refusal};
 ghost use Rattle.forest.specs.Order.{parent, nobody};
@@ -80,7 +79,7 @@ fn judged(n: usize, g: &[u8], out: &mut [u16]) -> Answer
 {
     let rows = graph::rows::rows_of(n, g);
     let words = graph::rows::flat_of(rows);
-    let found = first_quad(&words, n);
+    let found = graph::seek::first_quad(&words, n);
     if let First::At(q) = found {
         return Answer::Spoiled(q);
     }
@@ -125,11 +124,4 @@ pub fn forest(n: usize, g: &[u8], out: &mut [u16]) -> Answer
         };
     }
     judged(n, g, out)
-}
-
-fn first_quad(words: &[u64], n: usize) -> First
-    requires { ⌜ (length (now words) ≡ 256) × (n ≤ 128) × IsGraph n (wordEdge (now words)) ⌝ }
-    ensures { λ r. ⌜ r ≡ first (quads n (wordEdge (now (words .entry)))) ⌝ }
-{
-    First::Clear
 }

@@ -7,7 +7,7 @@ use Rattle.forest.proofs.judged.Statement.{statement}
 use Rattle.forest.proofs.judged.Tie as tie
 use Rattle.forest.proofs.judged.Reads as reads
 use Rattle.forest.proofs.judged.Lts as lts
-use Rattle.forest.proofs.first_quad.Reads as first-quad-reads
+use Rattle.graph.proofs.seek.first_quad.Reads as first-quad-reads
 use Rattle.forest.proofs.planted.Reads as planted-reads
 use Rattle.graph.proofs.rows.flat_of.Reads as flat-of-reads
 use Rattle.graph.proofs.rows.rows_of.Reads as rows-of-reads
