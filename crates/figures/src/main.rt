@@ -1,5 +1,5 @@
 // Runs `forest` on the figures of document 01 and on the inputs that a new user tries first, a line each: the answer, and
-// how many entries of the lent list, all 7 before the call, are no longer 7.
+// how many entries of the lent list, all 999 before the call, are no longer 999.
 use forest::Answer;
 
 fn text(s: &[u8]) {
@@ -21,6 +21,10 @@ fn parent(p: u16) {
     io::print_decimal(1, p as u64);
 }
 
+fn more() {
+    text(b" ..");
+}
+
 // The first parents of a list, eight at most.
 fn parents(n: usize, out: &[u16]) {
     let mut i = 0;
@@ -29,7 +33,7 @@ fn parents(n: usize, out: &[u16]) {
             return;
         }
         if i == 8 {
-            text(b" ..");
+            more();
             return;
         }
         parent(out[i]);
@@ -37,12 +41,12 @@ fn parents(n: usize, out: &[u16]) {
     }
 }
 
-// How many entries are no longer 7.
+// How many entries are no longer 999.
 fn changed(out: &[u16]) -> usize {
     let mut found = 0;
     let mut i = 0;
     while i < out.len() {
-        if out[i] != 7 {
+        if out[i] != 999 {
             found += 1;
         }
         i += 1;
@@ -90,14 +94,27 @@ fn show(r: Answer, n: usize, out: &[u16]) {
     text(b"\n");
 }
 
-// What `forest` answers where `room` entries are lent, 160 at most.
+// What `forest` answers where the first `room` entries are lent.
+fn lent(n: usize, g: &[u8], out: &mut [u16], room: usize) {
+    if room <= out.len() {
+        let r = forest::forest(n, g, &mut out[..room]);
+        show(r, n, out);
+    }
+}
+
+// The same with a list of 160 entries.
 fn tried(name: &[u8], n: usize, g: &[u8], room: usize) {
-    let mut out = [7u16; 160];
+    let mut out = [999u16; 160];
     text(name);
     text(b": ");
-    if room <= 160 {
-        let r = forest::forest(n, g, &mut out[..room]);
-        show(r, n, &out);
+    lent(n, g, &mut out, room);
+}
+
+// The same with the last byte of the graph left out.
+fn cut(name: &[u8], n: usize, g: &[u8], room: usize) {
+    if 0 < g.len() {
+        let k = g.len() - 1;
+        tried(name, n, &g[..k], room);
     }
 }
 
@@ -186,7 +203,7 @@ fn large() {
     let all = full();
     tried(b"n = 128, all edges", 128, &all, 128);
     tried(b"n = 128, list one short", 128, &all, 127);
-    tried(b"n = 128, one byte too few", 128, &all[..16383], 128);
+    cut(b"n = 128, one byte too few", 128, &all, 128);
     let more = [0u8; 16641];
     tried(b"n = 129", 129, &more, 129);
 }
