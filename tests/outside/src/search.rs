@@ -319,6 +319,29 @@ mod tests {
         assert!(fewer > 500);
     }
 
+    /// The deepest search known goes 8,000 pairs down before it finds a repair.
+    #[test]
+    fn a_deep_search_has_the_stack_it_needs() {
+        let n = MOST;
+        let mut asked = Question {
+            n,
+            graph: vec![0; n * n],
+            prices: vec![1; n * n],
+            budget: MOST_BUDGET,
+            most: 8_100,
+            room: pair_count(n),
+        };
+        for i in 0..n {
+            asked.prices[i * n + i] = 0;
+            for j in 0..n {
+                asked.graph[i * n + j] = u8::from(i != j && i.abs_diff(j) != 2);
+            }
+        }
+        let work = move || search(Engine::Plain, &asked);
+        let answer = crate::with_deep_stack(work).join().unwrap();
+        assert_eq!(answer, Answer::Stopped { steps: 8_100 });
+    }
+
     /// The bound never exceeds the price of any repair.
     #[test]
     fn bounds_hold() {
