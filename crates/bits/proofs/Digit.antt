@@ -2,9 +2,9 @@
 -- From this a word is known by its bits, by induction on the width. Assumes nothing.
 use mathlib.Core.Path.{_≡_, refl, sym, _∙_, ap, ap₂}
 use mathlib.Core.Logic.{_⊎_, inl, inr}
-use mathlib.Core.Bool.{Bool, true, false}
+use mathlib.Core.Bool.{true, false}
 use Prim.Native.Nat.{ℕ, zero, suc, _+_, _*_, _/_, _%_, _^_, _≤_, _<_}
-use native.Mathlib.Nat.{zero-div, zero-mod, div-one, div-eq-of-lt, div-add-mod', mod-lt, zero-lt-suc, lt-of-lt-of-le, lt-of-not-le, pow-suc, div-lt-iff-lt-mul}
+use native.Mathlib.Nat.{zero-div, div-one, div-eq-of-lt, div-add-mod', mod-lt, zero-lt-suc, lt-of-lt-of-le, lt-of-not-le, pow-suc, div-lt-iff-lt-mul}
 use native.Mathlib.Numerals.{one-add}
 use native.Mathlib.Omega.{arith}
 use lib.Arith.{lt-one}

@@ -3,15 +3,15 @@
 use mathlib.Core.Path.{_≡_, refl, sym, _∙_, ap, ap₂}
 use mathlib.Core.Logic.{_⊎_, inl, inr}
 use mathlib.Core.Bool.{Bool, true, false, not, _&&_}
-use Prim.Native.Nat.{ℕ, zero, suc, _+_, _-_, _*_, _/_, _%_, _^_, _≤_, _<_}
+use Prim.Native.Nat.{ℕ, zero, suc, _+_, _-_, _*_, _/_, _%_, _^_, _<_}
 use native.Mathlib.Nat.{div-add-mod', le-antisymm, le-of-suc-le-suc, lt-of-not-le, eq-zero-or-pos}
 use native.Mathlib.Omega.{arith}
 use lib.Arith.{digits-div, digits-mod, lt-one}
 use lib.Bits.{bitAnd, and-le-r}
 use lib.Count.{ones, ones-step, trailingZeros, under}
-use lib.Dec.{eqb, eqb·zero-suc, eqb·suc-zero, eqb·suc-suc}
+use lib.Dec.{eqb, eqb·suc-zero, eqb·suc-suc}
 use Rattle.bits.specs.Bit.{odd, bit}
-use Rattle.bits.specs.Choice.{pick, count}
+use Rattle.bits.specs.Choice.{count}
 use Rattle.bits.specs.Word.{Lowest, Cleared}
 use Rattle.bits.proofs.Truth.{never, and-off-left, and-on}
 use Rattle.bits.proofs.Digit.{last-digit, odd-of-zero, odd-of-one, digit-odd, bit-last, bit-suc, bit-zero, half-below}

@@ -1,10 +1,10 @@
 -- The bits of a word made by `&`, `|`, `^`, `!`, `<<` and `>>`: each operation works on one bit at a time.
--- The first three by the kit's laws that shifts and masks pass through them, the others by induction. Assumes nothing.
+-- The first three by the library's laws that shifts and masks pass through them, the others by induction. Assumes nothing.
 use mathlib.Core.Path.{_≡_, refl, sym, _∙_, ap, ap₂}
 use mathlib.Core.Logic.{_⊎_, inl, inr}
 use mathlib.Core.Bool.{Bool, true, false, not, _&&_, _||_}
 use Prim.Native.Nat.{ℕ, zero, suc, _+_, _-_, _*_, _/_, _%_, _^_, _≤_, _<_}
-use native.Mathlib.Nat.{div-add-mod', mod-lt, zero-lt-suc, pow-suc, mul-mod-left, mul-one, one-mul, mul-assoc, mul-div-cancel, div-one, mod-eq-of-lt, lt-of-le-of-lt, div-mul-le-self, le-refl}
+use native.Mathlib.Nat.{div-add-mod', mod-lt, zero-lt-suc, pow-suc, mul-mod-left, mul-one, one-mul, mul-assoc, mul-div-cancel, div-one, mod-eq-of-lt, lt-of-le-of-lt, div-mul-le-self}
 use native.Mathlib.Numerals.{one-add}
 use native.Mathlib.Omega.{arith}
 use borrow.Author.Tests.{lt-leb}

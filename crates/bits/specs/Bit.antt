@@ -6,7 +6,7 @@ use lib.Dec.{eqb}
 unfoldable pub odd : ℕ → Bool
 odd n = eqb (n % 2) 1
 
--- is bit i of the word w set
+-- is bit i of the word w set: "a vertex's neighbours are two 64-bit words"
 unfoldable pub bit : ℕ → ℕ → Bool
 unfolding odd
 bit w i = odd (w / 2 ^ i)

@@ -1,7 +1,7 @@
 -- The contracts of the word operations that are more than one equation: the lowest set bit, and the word without it.
 -- Assumes nothing.
 use mathlib.Core.Path.{_≡_}
-use mathlib.Core.Bool.{Bool, true, false, not, _&&_}
+use mathlib.Core.Bool.{true, false, not, _&&_}
 use Prim.Native.Nat.{ℕ, _<_}
 use lib.Dec.{eqb}
 use Rattle.bits.specs.Bit.{bit}

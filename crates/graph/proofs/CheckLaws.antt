@@ -1,23 +1,24 @@
--- The checks of entries: an index i * n + j stays inside n * n, what `entry` says in each of its cases, and how the first
--- fault of a row grows by one entry. Assumes nothing.
-use mathlib.Core.Path.{_≡_, refl, sym}
-use mathlib.Core.Logic.{_≢_, ⊎-elim}
-use Prim.Native.Nat.{ℕ, zero, suc, _+_, _*_, _≤_, _<_}
-use mathlib.Core.Bool.{Bool, true, false, _||_}
-use mathlib.Core.List.{List, [], _∷_, _++_}
+-- For the loops of the checks: an index i * n + j stays inside n * n, what `entry` says in each case of the code, and how
+-- the first fault of rows or entries is found one by one. Assumes nothing.
+use mathlib.Core.Path.{_≡_, refl, sym, _∙_}
+use mathlib.Core.Logic.{_⊎_, inl, inr, _≢_}
+use mathlib.Core.Bool.{Bool, true, false, not, _&&_, _||_}
+use mathlib.Core.List.{List}
+use Prim.Native.Nat.{ℕ, _+_, _*_, _≤_, _<_}
 use native.Mathlib.Nat.{suc-mul, mul-le-mul, mul-le-mul-right}
-use native.Mathlib.Numerals.{add-one}
 use native.Mathlib.Omega.{arith}
-use lib.ListN.{getD}
+use borrow.Author.Count.{below-more}
+use borrow.Author.Tests.{eq-eqb, ne-eqb, lt-ltb, le-ltb}
 use lib.Dec.{ltb, eqb}
 use Rattle.bits.specs.Choice.{pick}
-use Rattle.bits.proofs.Truth.{which}
-use borrow.Author.Tests.{eq-eqb, ne-eqb, lt-ltb, le-ltb, eqb-true, eqb-false}
+use Rattle.bits.proofs.Truth.{equal, or-right}
 use Rattle.graph.specs.declared.Finding.{Finding}
 use Rattle.graph.specs.declared.Finding.the-variants.{Fine, Fault}
 use Rattle.graph.specs.Each.{each}
-use Rattle.graph.specs.Refusal.{orElse, firstOf}
+use Rattle.graph.specs.Refusal.{firstOf}
 use Rattle.graph.specs.Check.{entry}
+use Rattle.graph.proofs.Leading.{firstOf-leading, each-nothing, each-leads, fault-not-fine}
+use Rattle.graph.proofs.Reading.{value, bad, entry-three, entry-four, entry-fine}
 
 -- the place of row i, column j is inside, and the whole is small
 pub inside : {n i j : ℕ} → n ≤ 128 → i < n → j < n → (i * n + j < n * n) × (n * n ≤ 16384)
@@ -25,76 +26,59 @@ inside {n} {i} {j} few hi hj =
     (omega (arith, suc-mul i n, mul-le-mul-right n hi), mul-le-mul few few)
 
 module _ (n : ℕ) (g : List ℕ) (i j : ℕ) where
-  pub entry-diagonal-fine : i ≡ j → getD g (i * n + j) 0 ≡ 0 → Fine ≡ entry n g i j
-  unfolding entry
-  entry-diagonal-fine e z =
-      let m : getD g (i * n + j) 0 ≡ getD g (j * n + i) 0 = cc in
-      let small : getD g (i * n + j) 0 ≤ 1 = omega arith in
-      simp (le-ltb 1 (getD g (i * n + j) 0) small, eq-eqb i j e, eq-eqb _ _ z, eq-eqb _ _ m)
-
-  pub entry-diagonal-fault : i ≡ j → getD g (i * n + j) 0 ≢ 0 → Fault 3 i j ≡ entry n g i j
-  unfolding entry
-  entry-diagonal-fault e z =
-      simp (eq-eqb i j e, ne-eqb _ _ z) (go (ltb 1 (getD g (i * n + j) 0)))
+  -- 3 stands where the entry is above the most it may be
+  bad-above : bad n g i j ≡ ltb (pick (eqb i j) 0 1) (value n g i j)
+  bad-above = at (equal i j) (equal (value n g i j) 0)
     where
-      other : Finding
-      other = pick (eqb (getD g (i * n + j) 0) (getD g (j * n + i) 0)) Fine (Fault 4 i j)
+      or-none : (b : Bool) → (b || false) ≡ b
+      or-none true = refl
+      or-none false = refl
 
-      go : (b : Bool) → Fault 3 i j ≡ pick (b || true) (Fault 3 i j) other
-      go true = refl
-      go false = refl
+      at :
+          (i ≡ j) ⊎ (i ≢ j) → (value n g i j ≡ 0) ⊎ (value n g i j ≢ 0) →
+          (ltb 1 (value n g i j) || (eqb i j && not (eqb (value n g i j) 0))) ≡ ltb (pick (eqb i j) 0 1) (value n g i j)
+      at (inl e) (inl z) =
+          let none = le-ltb 0 (value n g i j) (omega arith) in
+          let less = le-ltb 1 (value n g i j) (omega arith) in
+          simp (eq-eqb i j e, eq-eqb (value n g i j) 0 z, none, less)
+      at (inl e) (inr z) =
+          simp (eq-eqb i j e, ne-eqb (value n g i j) 0 z, lt-ltb 0 (value n g i j) (omega arith))
+          (or-right (ltb 1 (value n g i j)) refl)
+      at (inr d) w = simp (ne-eqb i j d) (or-none (ltb 1 (value n g i j)))
 
-  pub entry-large : 1 < getD g (i * n + j) 0 → Fault 3 i j ≡ entry n g i j
-  unfolding entry
-  entry-large h = simp (lt-ltb 1 (getD g (i * n + j) 0) h)
+  module _ {m : ℕ} (most : m ≡ pick (eqb i j) 0 1) where
+    bad-most : bad n g i j ≡ ltb m (value n g i j)
+    bad-most = rw most bad-above
 
-  pub entry-mirrored : i ≢ j → getD g (i * n + j) 0 ≤ 1 → getD g (i * n + j) 0 ≡ getD g (j * n + i) 0 → Fine ≡ entry n g i j
-  unfolding entry
-  entry-mirrored d h m = simp (le-ltb 1 (getD g (i * n + j) 0) h, ne-eqb i j d, eq-eqb _ _ m)
+    pub above-fault : m < value n g i j → Fault 3 i j ≡ entry n g i j
+    above-fault h = sym (entry-three n g i j (bad-most ∙ lt-ltb m (value n g i j) h))
 
-  pub entry-unlike : i ≢ j → getD g (i * n + j) 0 ≤ 1 → getD g (i * n + j) 0 ≢ getD g (j * n + i) 0 → Fault 4 i j ≡ entry n g i j
-  unfolding entry
-  entry-unlike d h m = simp (le-ltb 1 (getD g (i * n + j) 0) h, ne-eqb i j d, ne-eqb _ _ m)
+    pub unlike-fault : value n g i j ≤ m → value n g i j ≢ value n g j i → Fault 4 i j ≡ entry n g i j
+    unlike-fault h d = sym (entry-four n g i j (bad-most ∙ le-ltb m (value n g i j) h) d)
 
--- of two lists one behind the other, the first that finds something
-pub firstOf-append : (xs ys : List Finding) → firstOf (xs ++ ys) ≡ orElse (firstOf xs) (firstOf ys)
-unfolding firstOf
-firstOf-append [] ys = refl
-firstOf-append (Fine ∷ xs) ys = firstOf-append xs ys
-firstOf-append (Fault number i j ∷ xs) ys = refl
+    pub like-fine : value n g i j ≤ m → value n g i j ≡ value n g j i → Fine ≡ entry n g i j
+    like-fine h e = sym (entry-fine n g i j (bad-most ∙ le-ltb m (value n g i j) h) e)
 
-pub firstOf-one : (x : Finding) → firstOf (x ∷ []) ≡ x
-unfolding firstOf
-firstOf-one Fine = refl
-firstOf-one (Fault number i j) = refl
+-- nothing is found before place k
+abbrev pub Quiet : (ℕ → List Finding) → ℕ → Type 0
+Quiet f k = (b : ℕ) → b < k → firstOf (f b) ≡ Fine
 
 module _ (f : ℕ → List Finding) where
-  pub each-next : (k : ℕ) → each (k + 1) f ≡ each k f ++ f k
-  unfolding each
-  each-next k = rw add-one
+  pub quiet-none : Quiet f 0
+  quiet-none b h = absurd (omega arith)
 
-  -- nothing is found before k, nor at k
-  pub quiet-next : (k : ℕ) → firstOf (each k f) ≡ Fine → firstOf (f k) ≡ Fine → firstOf (each (k + 1) f) ≡ Fine
-  quiet-next k before here = rw (each-next k, firstOf-append, before, here)
+  pub quiet-next : (k : ℕ) → Quiet f k → firstOf (f k) ≡ Fine → Quiet f (k + 1)
+  quiet-next k before here = below-more _ k before here
 
   -- nothing is found before k, and something at k: that is the answer
   pub found-here :
-      {x : Finding} {number i j : ℕ} (n k : ℕ) → k < n → firstOf (each k f) ≡ Fine → x ≡ firstOf (f k) → x ≡ Fault number i j →
+      {x : Finding} {number i j : ℕ} (n k : ℕ) → k < n → Quiet f k → x ≡ firstOf (f k) → x ≡ Fault number i j →
       x ≡ firstOf (each n f)
-  unfolding each
-  found-here zero k h before here fault = absurd (omega arith)
-  found-here {x} {number} {i} {j} (suc m) k h before here fault =
-      ⊎-elim (λ e. last (eqb-true k m e)) (λ e. earlier (found-here m k (omega (arith, eqb-false k m e)) before here fault))
-      (which (eqb k m))
-    where
-      last : k ≡ m → x ≡ firstOf (each m f ++ f m)
-      last e = rw (firstOf-append, ← e, before) here
-
-      earlier : x ≡ firstOf (each m f) → x ≡ firstOf (each m f ++ f m)
-      earlier there = rw (firstOf-append, ← there, fault)
+  found-here {x} n k h before here fault =
+      sym
+      (each-leads firstOf-leading n f x (λ e. fault-not-fine (sym fault ∙ e))
+      (record { place = k; within = h; says = sym here; earlier = before }))
 
   -- nothing is found at all
-  pub quiet-end : {n k : ℕ} → k ≤ n → n ≤ k → firstOf (each k f) ≡ Fine → Fine ≡ firstOf (each n f)
-  quiet-end {n} {k} h l before =
-      let e : k ≡ n = omega arith in
-      rw e at (sym before)
+  pub quiet-end : (n k : ℕ) → n ≤ k → Quiet f k → Fine ≡ firstOf (each n f)
+  quiet-end n k past before = sym (each-nothing firstOf-leading n f (λ b h. before b (omega arith)))

@@ -3,12 +3,24 @@ ghost use mathlib.Core.Path.{_≡_};
 ghost use mathlib.Core.List.{[], _∷_};
 ghost use Prim.Native.Nat.{_*_, _≤_, _<_};
 ghost use lib.ListN.{length};
+ghost use lib.Dec.{eqb};
+ghost use Rattle.bits.specs.Choice.{pick};
 ghost use Rattle.graph.specs.Each.{each};
 ghost use Rattle.graph.specs.Refusal.{firstOf};
 ghost use Rattle.graph.specs.Check.{entry, entries};
 use crate::Finding;
 
-// The entry at row i, column j. On the diagonal it is its own mirror.
+// The most an entry may be: 0 on the diagonal, else 1.
+fn most(i: usize, j: usize) -> u8
+    ensures { λ r. ⌜ r ≡ pick (eqb i j) 0 1 ⌝ }
+{
+    if i == j {
+        return 0;
+    }
+    1
+}
+
+// The entry at row i, column j.
 fn entry_of(n: usize, g: &[u8], i: usize, j: usize) -> Finding
     requires { ⌜ n ≤ 128 ⌝ }
     requires { ⌜ length (now g) ≡ n * n ⌝ }
@@ -17,31 +29,23 @@ fn entry_of(n: usize, g: &[u8], i: usize, j: usize) -> Finding
     ensures { λ r. ⌜ r ≡ entry n (now (g .entry)) i j ⌝ }
 {
     let x = g[i * n + j];
-    if i == j {
-        if x == 0 {
-            return Finding::Fine;
-        }
+    let y = g[j * n + i];
+    let top = most(i, j);
+    if top < x {
         return Finding::Fault {
             number: 3,
             row: i,
             column: j,
         };
     }
-    if 1 < x {
+    if x != y {
         return Finding::Fault {
-            number: 3,
+            number: 4,
             row: i,
             column: j,
         };
     }
-    if x == g[j * n + i] {
-        return Finding::Fine;
-    }
-    Finding::Fault {
-        number: 4,
-        row: i,
-        column: j,
-    }
+    Finding::Fine
 }
 
 // The first fault of row i.

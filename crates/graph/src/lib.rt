@@ -1,6 +1,8 @@
 // Graphs as lent bytes and as words: the checks 1 to 4, rows, toggling a pair, and the first quad in listing order.
 
 pub mod check;
+pub mod rows;
+pub mod seek;
 
 // What a check finds: nothing, or a number of the table with its place.
 pub enum Finding {

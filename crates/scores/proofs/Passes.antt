@@ -1,25 +1,24 @@
 -- S3: what `to_graph` writes passes the checks 3, 4 and 6, and no pair is fixed. Assumes nothing.
-use mathlib.Core.Path.{_≡_, refl, sym, _∙_, ap}
+use mathlib.Core.Path.{_≡_, sym, _∙_, ap, ap₂}
 use mathlib.Core.Logic.{_⊎_, inl, inr, _≢_}
-use mathlib.Core.Bool.{Bool, true, false, not, _&&_, _||_}
-use mathlib.Core.List.{List, [], _∷_, _++_}
-use Prim.Native.Nat.{ℕ, zero, suc, _+_, _*_, _≤_, _<_}
+use mathlib.Core.Bool.{Bool, true, false}
+use mathlib.Core.List.{List, _++_}
+use Prim.Native.Nat.{ℕ, _+_, _*_, _≤_, _<_}
 use native.Mathlib.Omega.{arith}
 use lib.ListN.{length, getD, drop, List·getD-append}
 use lib.IntN.{ℤ}
-use lib.Dec.{ltb, eqb}
-use borrow.Author.Tests.{lt-ltb, le-ltb, eq-eqb, ne-eqb, eqb-true, eqb-false, not-false}
+use lib.Dec.{eqb}
+use borrow.Author.Tests.{lt-ltb, eq-eqb, ne-eqb, eqb-true, eqb-false}
 use Rattle.bits.specs.Choice.{pick}
-use Rattle.bits.proofs.Truth.{which, below, and-in, or-left, pick-true, pick-false}
-use Rattle.graph.specs.declared.Finding.{Finding}
+use Rattle.bits.proofs.Truth.{which, equal, and-in, or-left, pick-true, pick-false}
 use Rattle.graph.specs.declared.Finding.the-variants.{Fine, Fault}
-use Rattle.graph.specs.Each.{each, only}
-use Rattle.graph.specs.Refusal.{orElse, firstOf}
-use Rattle.graph.specs.Check.{entry, entries, tooMany, tooShort}
-use Rattle.graph.proofs.CheckLaws.{inside, entry-diagonal-fine, entry-mirrored, firstOf-append, firstOf-one}
-use Rattle.scores.specs.Scale.{onScale, edgeOf, priceOf, spot, place, scoreOf, scoreOff, scoresOff, thresholdOff, edgeByte, priceEntry, square, byRule, priceFault, priceFaults}
-use Rattle.scores.specs.Drawing.{wrongCount, checks, Promise}
-use Rattle.scores.proofs.ScoreFaults.{quiet-all, score-mirror, scores-on}
+use Rattle.graph.specs.Check.{entry, entries}
+use Rattle.graph.proofs.CheckLaws.{inside}
+use Rattle.graph.proofs.Grid.{fine-grid}
+use Rattle.graph.proofs.Reading.{small-good, entry-fine, fine-entries}
+use Rattle.scores.specs.Scale.{onScale, edgeOf, priceOf, scoreOf, scoresOff, edgeByte, priceEntry, square, byRule, priceFault, priceFaults}
+use Rattle.scores.specs.Drawing.{checks, Promise}
+use Rattle.scores.proofs.ScoreFaults.{score-mirror, scores-on}
 use Rattle.scores.proofs.Drawings.{promised}
 use Rattle.scores.proofs.Squares.{length-square, square-at}
 use Rattle.scores.proofs.OnScale.{price-bounds}
@@ -87,35 +86,33 @@ module _ (n : ℕ) (t : ℤ) (scores : List ℤ) where
         let e = price-at i j hi hj in
         (omega arith, omega arith)
 
-    edge-fine : (i j : ℕ) → i < n → j < n → Fine ≡ entry n graph′ i j
-    edge-fine i j hi hj = go (which (eqb i j))
+    edge-mirrors : (i j : ℕ) → edgeByte n t scores i j ≡ edgeByte n t scores j i
+    edge-mirrors i j = go (equal i j)
       where
-        go : (eqb i j ≡ true) ⊎ (eqb i j ≡ false) → Fine ≡ entry n graph′ i j
-        go (inl p) =
-            let e = eqb-true i j p in
-            entry-diagonal-fine n graph′ i j e (edge-at i j hi hj ∙ sym (edge-diagonal n t scores i j e))
-        go (inr p) =
-            let apart : i ≢ j = eqb-false i j p in
-            entry-mirrored n graph′ i j apart (omega (arith, edge-at i j hi hj, edge-small i j))
-            (edge-at i j hi hj ∙ edge-mirror i j apart ∙ sym (edge-at j i hj hi))
+        go : (i ≡ j) ⊎ (i ≢ j) → edgeByte n t scores i j ≡ edgeByte n t scores j i
+        go (inl e) = ap₂ (edgeByte n t scores) e (sym e)
+        go (inr apart) = edge-mirror i j apart
+
+    edge-fine : (i j : ℕ) → i < n → j < n → entry n graph′ i j ≡ Fine
+    edge-fine i j hi hj =
+        entry-fine n graph′ i j
+        (small-good n graph′ i j (omega (arith, edge-at i j hi hj, edge-small i j)) (λ e.
+        edge-at i j hi hj ∙ sym (edge-diagonal n t scores i j e)))
+        (edge-at i j hi hj ∙ edge-mirrors i j ∙ sym (edge-at j i hj hi))
 
     -- the checks 3 and 4
-    pub graph-passes : Fine ≡ entries n graph′
-    unfolding entries
-    graph-passes =
-        sym (quiet-all n (λ i. each n (λ j. entry n graph′ i j ∷ [])) (λ i hi. quiet-all n (λ j. entry n graph′ i j ∷ []) (λ j hj.
-        firstOf-one (entry n graph′ i j) ∙ sym (edge-fine i j hi hj))))
+    pub graph-passes : entries n graph′ ≡ Fine
+    graph-passes = fine-entries n graph′ edge-fine
 
-    price-fine : (i j : ℕ) → i < n → j < n → Fine ≡ priceFault n prices′ i j
+    price-fine : (i j : ℕ) → i < n → j < n → priceFault n prices′ i j ≡ Fine
     unfolding priceFault byRule
     price-fine i j hi hj = go (which (eqb i j))
       where
-        go : (eqb i j ≡ true) ⊎ (eqb i j ≡ false) → Fine ≡ priceFault n prices′ i j
+        go : (eqb i j ≡ true) ⊎ (eqb i j ≡ false) → priceFault n prices′ i j ≡ Fine
         go (inl p) =
             let e = eqb-true i j p in
             let zero-price : getD prices′ (i * n + j) 0 ≡ 0 = price-at i j hi hj ∙ sym (price-diagonal n t scores i j e) in
             let mirror : getD prices′ (i * n + j) 0 ≡ getD prices′ (j * n + i) 0 = cc in
-            sym
             (pick-true Fine (Fault 6 i j)
             (and-in (pick-true _ _ p ∙ eq-eqb _ _ zero-price) (eq-eqb _ _ mirror)))
         go (inr p) =
@@ -124,13 +121,10 @@ module _ (n : ℕ) (t : ℤ) (scores : List ℤ) where
             let mirror = price-at i j hi hj ∙ price-mirror i j apart ∙ sym (price-at j i hj hi) in
             let some : 0 < getD prices′ (i * n + j) 0 = omega arith in
             let most : getD prices′ (i * n + j) 0 < 10001 = omega arith in
-            sym
             (pick-true Fine (Fault 6 i j)
             (and-in (pick-false _ _ p ∙ or-left _ (and-in (lt-ltb _ _ some) (lt-ltb _ _ most))) (eq-eqb _ _ mirror)))
 
     -- the check 6
-    pub prices-pass : Fine ≡ priceFaults n prices′
+    pub prices-pass : priceFaults n prices′ ≡ Fine
     unfolding priceFaults
-    prices-pass =
-        sym (quiet-all n (λ i. each n (λ j. priceFault n prices′ i j ∷ [])) (λ i hi. quiet-all n (λ j. priceFault n prices′ i j ∷ []) (λ j hj.
-        firstOf-one (priceFault n prices′ i j) ∙ sym (price-fine i j hi hj))))
+    prices-pass = fine-grid n (priceFault n prices′) price-fine

@@ -3,7 +3,7 @@
 use mathlib.Core.Path.{_≡_, refl, sym, _∙_, ap, ap₂}
 use mathlib.Core.Bool.{true}
 use mathlib.Core.Logic.{_⊎_, inl, inr}
-use mathlib.Core.List.{List, [], _∷_, _++_, append-assoc}
+use mathlib.Core.List.{List, [], _∷_, _++_}
 use Prim.Native.Nat.{ℕ, _+_, _*_, _-_, _/_, _%_, _≤_, _<_}
 use native.Mathlib.Omega.{arith}
 use lib.ListN.{length, getD, take, drop, length-drop, take-append-drop}
@@ -15,10 +15,9 @@ use mir.ValLaws.{ofZ-toZ}
 use borrow.Author.Tests.{eq-eqb, le-ltb}
 use Rattle.bits.proofs.Truth.{below, not-off}
 use Rattle.graph.specs.declared.Finding.the-variants.{Fine}
-use Rattle.graph.specs.Each.{each}
 use Rattle.graph.specs.Refusal.{firstOf}
 use Rattle.graph.specs.Check.{tooMany}
-use Rattle.graph.proofs.CheckLaws.{firstOf-one}
+use Rattle.graph.proofs.Refusals.{firstOf-single}
 use Rattle.scores.specs.declared.Reading.the-variants.{Sheet}
 use Rattle.scores.specs.declared.Writing.{Writing}
 use Rattle.scores.specs.declared.Writing.the-variants.{Written}
@@ -164,8 +163,8 @@ module _ (sheet : List ℕ) (bytes : AreBytes sheet) (ok : Laid sheet) where
 
 -- the reader refused nothing
 unrefused-sheet : (sheet : List ℕ) (out : List ℤ) → Fine ≡ firstOf (reader.checks sheet out) → Fine ≡ reader.sheetFault sheet
-unfolding reader.checks firstOf
-unrefused-sheet sheet out e = fine-first (reader.sheetFault sheet) (firstOf (reader.noRoom out (sizeOf sheet) ∷ [])) e .0
+unfolding reader.checks
+unrefused-sheet sheet out e = fine-first (reader.sheetFault sheet) (reader.noRoom out (sizeOf sheet) ∷ []) e .0
 
 -- the writer takes what was read
 writes :
@@ -176,7 +175,7 @@ writes sheet notes scores n t few count short on fine =
     let counts : Fine ≡ firstOf (tooMany n ∷ wrongCount scores n ∷ []) =
     done ∙ pass 2 [] (not-off (eq-eqb _ _ count)) ∙ pass 1 (wrongCount scores n ∷ []) (le-ltb 128 n few) in
     let offs : Fine ≡ firstOf (thresholdOff t ∷ scoresOff n scores ∷ []) =
-    fine ∙ sym (firstOf-one (scoresOff n scores)) ∙ pass 5 (scoresOff n scores ∷ []) (not-off on) in
+    fine ∙ sym (firstOf-single (scoresOff n scores)) ∙ pass 5 (scoresOff n scores ∷ []) (not-off on) in
     scale-decides notes scores n t counts short Fine offs
 
 again :

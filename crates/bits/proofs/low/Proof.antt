@@ -1,5 +1,4 @@
 -- `bits::low` meets its contract: the trailing zeros end at the lowest set bit. Assumes nothing.
-use borrow.Author.Needs.{needs}
 use native.Mathlib.Omega.{arith}
 use lib.Count.{trailingZeros}
 use Rattle.bits.specs.Word.{Lowest}

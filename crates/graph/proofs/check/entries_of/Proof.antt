@@ -1,25 +1,22 @@
 -- `graph::check::entries_of` meets its contract. The loop's invariant: nothing is found before `i`. Assumes nothing.
-use mathlib.Core.Path.{_≡_, refl, sym, _∙_}
+use mathlib.Core.Path.{sym, _∙_}
 use mathlib.Core.List.{[], _∷_}
 use Prim.Native.Nat.{_≤_, _-_}
 use borrow.Author.Needs.{needs}
-use Rattle.graph.specs.declared.Finding.the-variants.{Fine}
 use Rattle.graph.specs.Each.{each}
-use Rattle.graph.specs.Refusal.{firstOf}
 use Rattle.graph.specs.Check.{entry, entries}
-use Rattle.graph.proofs.CheckLaws.{quiet-next, found-here, quiet-end}
+use Rattle.graph.proofs.CheckLaws.{Quiet, quiet-none, quiet-next, found-here, quiet-end}
 use Rattle.graph.proofs.check.entries_of.Statement.{statement}
 use Rattle.graph.proofs.check.entries_of.Tie as tie
 
 abbrev Inv-loop : tie.InvT-loop
-Inv-loop n g i₀ i = (i ≤ n) × (firstOf (each i (λ a. each n (λ b. entry n g a b ∷ []))) ≡ Fine)
+Inv-loop n g i₀ i = (i ≤ n) × Quiet (λ a. each n (λ b. entry n g a b ∷ [])) i
 
 abbrev μ-loop : tie.MeasureT-loop
 μ-loop n g i₀ i = n - i
 
 loop-holds : tie.Need-loop-holds Inv-loop μ-loop
-unfolding each firstOf
-loop-holds c = (search needs, refl)
+loop-holds c = (search needs, quiet-none _)
 
 row-of-requires : tie.Need-row-of-requires Inv-loop μ-loop
 row-of-requires c κs = search needs
@@ -50,7 +47,7 @@ loop-again c =
 
 returns-2 : tie.Need-returns-2 Inv-loop μ-loop
 unfolding entries
-returns-2 c = quiet-end _ (c .before .loop .inv .0) (c .loop-test .left) (c .before .loop .inv .1)
+returns-2 c = quiet-end _ _ _ (c .loop-test .left) (c .before .loop .inv .1)
 
 pub entries-of-spec : {M : Type 1} → statement M
 entries-of-spec =

@@ -1,25 +1,22 @@
 -- `graph::check::row_of` meets its contract. The loop's invariant: nothing is found before `j`. Assumes nothing.
-use mathlib.Core.Path.{_≡_, refl, sym, _∙_}
+use mathlib.Core.Path.{sym, _∙_}
 use mathlib.Core.List.{[], _∷_}
 use Prim.Native.Nat.{_≤_, _-_}
 use borrow.Author.Needs.{needs}
-use Rattle.graph.specs.declared.Finding.the-variants.{Fine}
-use Rattle.graph.specs.Each.{each}
-use Rattle.graph.specs.Refusal.{firstOf}
 use Rattle.graph.specs.Check.{entry}
-use Rattle.graph.proofs.CheckLaws.{quiet-next, found-here, quiet-end, firstOf-one}
+use Rattle.graph.proofs.Refusals.{firstOf-single}
+use Rattle.graph.proofs.CheckLaws.{Quiet, quiet-none, quiet-next, found-here, quiet-end}
 use Rattle.graph.proofs.check.row_of.Statement.{statement}
 use Rattle.graph.proofs.check.row_of.Tie as tie
 
 abbrev Inv-loop : tie.InvT-loop
-Inv-loop n g i j₀ j = (j ≤ n) × (firstOf (each j (λ b. entry n g i b ∷ [])) ≡ Fine)
+Inv-loop n g i j₀ j = (j ≤ n) × Quiet (λ b. entry n g i b ∷ []) j
 
 abbrev μ-loop : tie.MeasureT-loop
 μ-loop n g i j₀ j = n - j
 
 loop-holds : tie.Need-loop-holds Inv-loop μ-loop
-unfolding each firstOf
-loop-holds c = (search needs, refl)
+loop-holds c = (search needs, quiet-none _)
 
 entry-of-requires : tie.Need-entry-of-requires Inv-loop μ-loop
 entry-of-requires c κs = search needs
@@ -30,7 +27,7 @@ enum-told c = search needs
 returns : tie.Need-returns Inv-loop μ-loop
 returns c =
     let at = c .before .before .before in
-    let one = c .before .before .entry-of .ensures ∙ sym (firstOf-one _) in
+    let one = c .before .before .entry-of .ensures ∙ sym (firstOf-single _) in
     found-here _ _ _ (at .loop-test .taken) (at .before .loop .inv .1) one (c .enum-told .given .1)
 
 enum-told-2 : tie.Need-enum-told-2 Inv-loop μ-loop
@@ -45,11 +42,11 @@ loop-less c = search needs
 loop-again : tie.Need-loop-again Inv-loop μ-loop
 loop-again c =
     let at = c .before .before .before .before in
-    let one = firstOf-one _ ∙ sym (c .before .before .entry-of .ensures) ∙ c .enum-told2 .given .1 in
+    let one = firstOf-single _ ∙ sym (c .before .before .entry-of .ensures) ∙ c .enum-told2 .given .1 in
     (search needs, quiet-next _ _ (at .loop .inv .1) one)
 
 returns-2 : tie.Need-returns-2 Inv-loop μ-loop
-returns-2 c = quiet-end _ (c .before .loop .inv .0) (c .loop-test .left) (c .before .loop .inv .1)
+returns-2 c = quiet-end _ _ _ (c .loop-test .left) (c .before .loop .inv .1)
 
 pub row-of-spec : {M : Type 1} → statement M
 row-of-spec =

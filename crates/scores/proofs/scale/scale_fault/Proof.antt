@@ -1,12 +1,10 @@
 -- `scale_fault` meets its contract: the threshold, then the scores. Assumes nothing.
 use borrow.Author.Needs.{needs}
-use mathlib.Core.List.{[], _∷_}
-use mathlib.Core.Path.{_≡_, sym, _∙_, ap}
+use mathlib.Core.Path.{sym, _∙_, ap}
 use mir.Syntax.{w16}
 use mir.ValLaws.{toZ-ofZ}
 use Rattle.bits.proofs.Truth.{not-in, not-off}
-use Rattle.graph.proofs.CheckLaws.{firstOf-one}
-use Rattle.graph.specs.Refusal.{firstOf}
+use Rattle.graph.proofs.Refusals.{firstOf-single}
 use Rattle.scores.proofs.Checking.{hit, pass}
 use Rattle.scores.proofs.scale.scale_fault.Statement.{statement}
 use Rattle.scores.proofs.scale.scale_fault.Tie as tie
@@ -23,7 +21,7 @@ unfolding thresholdOff
 returns c =
     let o = c .before .before .before in
     let t = c .before .before .on-scale .ensures ∙ ap onScale (toZ-ofZ w16 (o .args .t) (o .fits .t)) in
-    c .off-scale .ensures ∙ sym (firstOf-one _) ∙ pass 5 _ (not-off (sym t ∙ c .before .if1 .taken))
+    c .off-scale .ensures ∙ sym (firstOf-single _) ∙ pass 5 _ (not-off (sym t ∙ c .before .if1 .taken))
 
 returns-2 : tie.Need-returns-2
 unfolding thresholdOff

@@ -1,0 +1,17 @@
+pub mod Ancestors
+pub mod Counted
+pub mod Degrees
+pub mod Finite
+pub mod Fitted
+pub mod Fitting
+pub mod Groups
+pub mod Listed
+pub mod Nested
+pub mod Nexts
+pub mod Orders
+pub mod Parents
+pub mod Shape
+pub mod Steps
+pub mod Turns
+pub mod Determined
+pub mod Answers

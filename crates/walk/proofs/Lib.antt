@@ -1,0 +1,12 @@
+pub mod Laws
+pub mod Steady
+pub mod Right
+pub mod Fuel
+pub mod Single
+pub mod Stop
+pub mod Prune
+pub mod Size
+pub mod Height
+pub mod Promises
+pub mod Toy
+pub mod ToyLaws

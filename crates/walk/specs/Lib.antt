@@ -1,0 +1,4 @@
+pub mod Problem
+pub mod Walk
+pub mod Run
+pub mod Best
