@@ -7,7 +7,7 @@ ghost use Rattle.graph.specs.Check.{entries};
 ghost use Rattle.graph.specs.Price.{priceEntries};
 ghost use Rattle.bound.specs.Answer.{packingOf, Promise};
 
-pub mod lay;
+mod lay;
 pub mod pack;
 pub mod prices;
 

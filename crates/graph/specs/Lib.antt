@@ -4,5 +4,5 @@ pub mod Graph
 pub mod Check
 pub mod Price
 pub mod Quad
-pub mod Levels
 pub mod Rows
+pub mod Levels

@@ -1,21 +1,21 @@
 -- B1: the packing bound never exceeds the price of any repair; with marks, of any set of free pairs that cleans the
 -- graph. Every quad has a pair of such a set, since a quad none of whose pairs is toggled stays. Assumes nothing.
-use mathlib.Core.Path.{_≡_, refl, sym, ap, _∙_}
+use mathlib.Core.Path.{_≡_, _∙_}
 use mathlib.Core.Logic.{_⊎_, inl, inr}
 use mathlib.Core.Bool.{Bool, true, false}
-use mathlib.Core.List.{List, [], _∷_}
+use mathlib.Core.List.{List}
 use Prim.Native.Nat.{ℕ, _≤_}
 use Rattle.bits.proofs.Truth.{never, which}
 use Rattle.graph.specs.declared.Quad.{Quad}
 use Rattle.graph.specs.Quad.{isQuad, quads, Clean}
-use Rattle.graph.proofs.Facts.{Induced, quad-induced, induced-quad}
+use Rattle.graph.proofs.Facts.{quad-induced, induced-quad}
 use Rattle.graph.proofs.Quads.{Named, listed-named}
 use Rattle.repair.specs.Pair.{pairOf, changeable, member, all}
 use Rattle.repair.specs.Better.{price}
 use Rattle.repair.specs.Repair.{toggled, Repair}
-use Rattle.repair.specs.Packing.{pairsOf, those, share, packing}
+use Rattle.repair.specs.Packing.{pairsOf, share, stuck, packing}
 use Rattle.repair.proofs.Sets.{member-here, member-there, all-at, those-in, share-out, unshared}
-use Rattle.repair.proofs.Packs.{Meets, packing-bounded}
+use Rattle.repair.proofs.Packs.{Meets, MeetsAll, meets-unstuck, packing-bounded}
 use Rattle.repair.proofs.Toggling.{toggled-stays}
 
 -- the pairs by which a quad is one are among its six
@@ -75,27 +75,31 @@ module _ (n : ℕ) (e : ℕ → ℕ → Bool) (xs : List ℕ) where
           never (quad-stays q h (is .quad))
           (clean (q .a) (q .b) (q .c) (q .d) (is .a-in) (is .b-in) (is .c-in) (is .d-in))
 
-  -- B1, with marks: "any set of free pairs that cleans the present graph"
-  pub bound-free :
-      (free : ℕ → Bool) (toll : ℕ → ℕ) → all free xs ≡ true → Clean n (toggled n e xs) →
-      packing n free toll (quads n e) ≤ price toll xs
-  bound-free free toll allowed clean =
-      packing-bounded n free toll xs (quads n e)
-      (λ q m. meets q (clean-includes clean q (listed-named n e q m)))
-    where
-      meets : (q : Quad) → Includes q → Meets n free toll xs q
-      meets q i =
-          record {
-            pair = i .pair;
-            of-quad = those-in free (i .pair) (pairsOf n q) (i .of-quad) (all-at free (i .pair) xs allowed (i .of-set));
-            of-list = i .of-set;
-          }
+  module _ (free : ℕ → Bool) (allowed : all free xs ≡ true) (clean : Clean n (toggled n e xs)) where
+    meets-all : MeetsAll n free xs (quads n e)
+    meets-all q m = meets (clean-includes clean q (listed-named n e q m))
+      where
+        meets : Includes q → Meets n free xs q
+        meets i =
+            record {
+              pair = i .pair;
+              of-quad = those-in free (i .pair) (pairsOf n q) (i .of-quad) (all-at free (i .pair) xs allowed (i .of-set));
+              of-list = i .of-set;
+            }
+
+    -- B1, with marks: "any set of free pairs that cleans the present graph"
+    pub bound-free : (toll : ℕ → ℕ) → packing n free toll (quads n e) ≤ price toll xs
+    bound-free toll = packing-bounded n free toll xs (quads n e) meets-all
+
+    -- "If any has no free pair": then no set of free pairs cleans the graph
+    pub stuck-never : stuck n free (quads n e) ≡ true → ⊥
+    stuck-never h = never h (meets-unstuck n free xs (quads n e) meets-all)
 
 -- B1: "The bound never exceeds the price of any repair." "Asked for a graph by itself, nothing is marked."
 pub bound-repair :
     (n : ℕ) (e : ℕ → ℕ → Bool) (toll : ℕ → ℕ) (r : List ℕ) → Repair n e toll r →
     packing n (changeable n toll) toll (quads n e) ≤ price toll r
-bound-repair n e toll r is = bound-free n e r (changeable n toll) toll (is .allowed) (is .cleans)
+bound-repair n e toll r is = bound-free n e r (changeable n toll) (is .allowed) (is .cleans) toll
 
 -- a graph with a quad: every repair has one of its six pairs
 pub repair-includes :

@@ -4,15 +4,15 @@ use mathlib.Core.Logic.{_⊎_, inl, inr}
 use mathlib.Core.Bool.{Bool, true, false}
 use Prim.Native.Nat.{ℕ, zero, suc, _+_, _≤_, _<_}
 use native.Mathlib.Omega.{arith}
-use Rattle.bits.specs.Choice.{pick, count}
+use Rattle.bits.specs.Choice.{count}
 use Rattle.bits.proofs.Truth.{never, which, pick-true, pick-false}
 use Rattle.graph.proofs.Listing.{below-suc}
 
-count-more : (f : ℕ → Bool) (m : ℕ) → f m ≡ true → count f (suc m) ≡ 1 + count f m
+pub count-more : (f : ℕ → Bool) (m : ℕ) → f m ≡ true → count f (suc m) ≡ 1 + count f m
 unfolding count
 count-more f m h = ap (λ t. t + count f m) (pick-true 1 0 h)
 
-count-same : (f : ℕ → Bool) (m : ℕ) → f m ≡ false → count f (suc m) ≡ 0 + count f m
+pub count-same : (f : ℕ → Bool) (m : ℕ) → f m ≡ false → count f (suc m) ≡ 0 + count f m
 unfolding count
 count-same f m h = ap (λ t. t + count f m) (pick-false 1 0 h)
 

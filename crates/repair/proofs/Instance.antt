@@ -1,35 +1,34 @@
 -- Document 01's tree obeys the laws of search trees, and the pruned engine's cut is safe. Prices of pairs that may be
 -- changed are at least 1, so that no set with more pairs is better. Assumes nothing.
-use mathlib.Core.Path.{_≡_, refl, sym, ap, _∙_}
+use mathlib.Core.Path.{_≡_, refl, ap, _∙_}
 use mathlib.Core.Logic.{_⊎_, inl, inr}
-use mathlib.Core.Bool.{Bool, true, false, _&&_}
+use mathlib.Core.Bool.{Bool, true, false}
 use mathlib.Core.List.{List, [], _∷_}
-use Prim.Native.Nat.{ℕ, suc, _+_, _*_, _/_, _%_, _≤_, _<_}
+use Prim.Native.Nat.{ℕ, _+_, _*_, _≤_, _<_}
 use native.Mathlib.Omega.{arith}
-use lib.ListN.{length}
-use lib.Dec.{ltb, eqb}
 use borrow.Author.Tests.{ltb-true, not-true}
 use Rattle.bits.specs.Choice.{count}
-use Rattle.bits.proofs.Truth.{never, fails, and-left}
+use Rattle.bits.proofs.Truth.{never, fails}
 use Rattle.graph.specs.Graph.{IsGraph}
 use Rattle.graph.specs.declared.Quad.{Quad}
 use Rattle.graph.specs.declared.First.{First}
 use Rattle.graph.specs.declared.First.the-variants.{At, Clear}
 use Rattle.graph.specs.Quad.{quads, first, Clean}
 use Rattle.graph.proofs.Quads.{Named, listed-named, first-listed, clear-clean}
-use Rattle.walk.proofs.Laws.{Laws, NotBetter, Ordered, Safe, marked}
-use Rattle.repair.specs.Pair.{isPair, changeable, member, all}
+use Rattle.walk.proofs.Laws.{Laws, NotBetter, Ordered, marked}
+use Rattle.repair.specs.Pair.{changeable, member}
 use Rattle.repair.specs.Better.{price, better}
-use Rattle.repair.specs.Repair.{toggled, Repair}
-use Rattle.repair.specs.Packing.{those, pairsOf, packing}
+use Rattle.repair.specs.Repair.{toggled}
+use Rattle.repair.specs.Packing.{those, pairsOf}
 use Rattle.repair.specs.Tree.{Node, isClear, waysOf, order, present, free, mark, add, tree, pruned}
 use Rattle.repair.proofs.Orders.{cheaper-better, better-no-dearer, better-transitive, better-total}
-use Rattle.repair.proofs.Sets.{member-none, member-here, member-there, member-out, all-at, all-in, those-out}
+use Rattle.repair.proofs.Sets.{member-none, member-here, member-there, member-out, all-at, all-in, those-out, lacks}
 use Rattle.repair.proofs.Counts.{count-fewer, count-lost}
+use Rattle.repair.proofs.Numbers.{changeable-below}
 use Rattle.repair.proofs.Inserts.{insert-price}
 use Rattle.repair.proofs.Toggling.{toggled-graph, toggled-parts}
-use Rattle.repair.proofs.Supersets.{lacks, parts-price, superset-unbetter, lacks-parts}
-use Rattle.repair.proofs.Bound.{Includes, clean-includes, bound-free}
+use Rattle.repair.proofs.Supersets.{parts-price, superset-unbetter, lacks-parts}
+use Rattle.repair.proofs.Bound.{clean-includes, bound-free}
 use Rattle.repair.proofs.Nodes.{
   Fit,
   Below,
@@ -79,10 +78,10 @@ module _ (n : ℕ) (e : ℕ → ℕ → Bool) (toll : ℕ → ℕ) where
       limit < price toll a
   unfolding pruned
   pruned-above s limit a fit over b =
-      let high = ltb-true limit (price toll (s .path) + packing n (free n toll s) toll (quads n (present n e s))) over in
       omega (
         arith,
-        bound-free n (present n e s) (rest s a) (free n toll s) toll (all-in (free n toll s) (rest s a) (rest-free s a b)) (rest-cleans s a b),
+        ltb-true,
+        bound-free n (present n e s) (rest s a) (free n toll s) (all-in (free n toll s) (rest s a) (rest-free s a b)) (rest-cleans s a b) toll,
         parts-price toll (s .path) a (fit .sorted) (b .repair .sorted) (b .has),
       )
 
@@ -153,10 +152,6 @@ module _ (n : ℕ) (e : ℕ → ℕ → Bool) (toll : ℕ → ℕ) where
   unfolding free add mark
   free-added s w = refl
 
-  pair-number : (w : ℕ) → changeable n toll w ≡ true → w < n * n
-  unfolding changeable isPair
-  pair-number w h = ltb-true w (n * n) (and-left (ltb w (n * n)) _ (and-left (isPair n w) _ h))
-
   pub spent-add : (s : Node) (w : ℕ) → price toll ((add s w) .path) ≡ price toll (s .path) + toll w
   unfolding add
   spent-add s w = omega (arith, insert-price toll w (s .path))
@@ -173,7 +168,7 @@ module _ (n : ℕ) (e : ℕ → ℕ → Bool) (toll : ℕ → ℕ) where
   count-add s w h =
       rw (free-added s w)
       (count-lost (free n toll (mark s w)) (free n toll s) (free-fewer s w) w (n * n)
-      (pair-number w (free-changeable n toll s w h)) (free-lost s w) h)
+      (changeable-below n toll w (free-changeable n toll s w h)) (free-lost s w) h)
 
   pub count-mark : (s : Node) (w : ℕ) → count (free n toll (mark s w)) (n * n) ≤ count (free n toll s) (n * n)
   count-mark s w = count-fewer (free n toll (mark s w)) (free n toll s) (free-fewer s w) (n * n)

@@ -12,3 +12,11 @@ pub mod Supersets
 pub mod Counts
 pub mod Nodes
 pub mod Instance
+pub mod Depths
+pub mod Promises
+pub mod Figures
+pub mod Listed
+pub mod Pairs
+pub mod Always
+pub mod Tolls
+pub mod Room

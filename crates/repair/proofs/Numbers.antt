@@ -2,8 +2,8 @@
 -- greater, which the quotient and the remainder take apart again. Assumes nothing.
 use mathlib.Core.Path.{_≡_, refl, sym, ap, ap₂, _∙_}
 use mathlib.Core.Logic.{_⊎_, inl, inr, _≢_}
-use mathlib.Core.Bool.{Bool, true, false, _&&_, _||_}
-use Prim.Native.Nat.{ℕ, zero, suc, _+_, _*_, _/_, _%_, _≤_, _<_, min, max}
+use mathlib.Core.Bool.{Bool, true, false, _&&_}
+use Prim.Native.Nat.{ℕ, suc, _+_, _*_, _/_, _%_, _<_, min, max}
 use native.Mathlib.Nat.{
   min-comm,
   max-comm,
@@ -17,10 +17,10 @@ use native.Mathlib.Nat.{
 use native.Mathlib.Omega.{arith}
 use lib.Dec.{ltb, eqb}
 use borrow.Author.Tests.{lt-ltb, eq-eqb, ltb-true, ltb-false}
-use Rattle.bits.proofs.Truth.{and-in, or-left, or-right}
+use Rattle.bits.proofs.Truth.{and-in, and-left, or-left, or-right}
 use Rattle.graph.specs.Graph as graph
 use Rattle.graph.proofs.Flipping.{pair-out}
-use Rattle.repair.specs.Pair.{pairOf, isPair}
+use Rattle.repair.specs.Pair.{pairOf, isPair, changeable}
 
 pub pair-mirrored : (n x y : ℕ) → pairOf n x y ≡ pairOf n y x
 unfolding pairOf
@@ -79,3 +79,8 @@ pair-told n x y i j h = go (pair-out x y i j h)
     go : ((i ≡ x) × (j ≡ y)) ⊎ ((i ≡ y) × (j ≡ x)) → pairOf n i j ≡ pairOf n x y
     go (inl k) = ap₂ (pairOf n) (k .0) (k .1)
     go (inr k) = ap₂ (pairOf n) (k .0) (k .1) ∙ pair-mirrored n y x
+
+-- a pair that may be changed has a number below n x n
+pub changeable-below : (n : ℕ) (toll : ℕ → ℕ) (x : ℕ) → changeable n toll x ≡ true → x < n * n
+unfolding changeable isPair
+changeable-below n toll x h = ltb-true x (n * n) (and-left (ltb x (n * n)) _ (and-left (isPair n x) _ h))

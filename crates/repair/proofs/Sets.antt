@@ -1,33 +1,16 @@
 -- Lists read as sets: what is a member of a list made of others, and what holds of every member. Assumes nothing.
-use mathlib.Core.Path.{_≡_, refl, sym, ap, ap₂, _∙_}
+use mathlib.Core.Path.{_≡_, refl, sym, ap, _∙_}
 use mathlib.Core.Logic.{_⊎_, inl, inr, ⊎-elim}
-use mathlib.Core.Bool.{Bool, true, false, not, _&&_, _||_}
+use mathlib.Core.Bool.{Bool, true, false, not, _||_}
 use mathlib.Core.List.{List, [], _∷_, _++_}
-use Prim.Native.Nat.{ℕ, zero, suc, _+_, _≤_, _<_}
-use native.Mathlib.Omega.{arith}
-use lib.Dec.{ltb, eqb}
-use borrow.Author.Tests.{ltb-true, eqb-true, lt-ltb, eq-eqb, ne-eqb}
+use Prim.Native.Nat.{ℕ}
+use lib.Dec.{eqb}
+use borrow.Author.Tests.{eqb-true, eq-eqb, not-true}
 use Rattle.bits.specs.Choice.{pick}
-use Rattle.bits.proofs.Truth.{
-  never,
-  which,
-  same,
-  fails,
-  and-in,
-  and-left,
-  and-right,
-  or-left,
-  or-right,
-  or-out,
-  or-off,
-  or-off-left,
-  or-off-right,
-  pick-true,
-  pick-false,
-}
+use Rattle.bits.proofs.Truth.{never, which, fails, and-in, and-left, and-right, or-left, or-right, or-out, not-in, or-off-right}
 use Rattle.graph.specs.Each.{only}
-use Rattle.repair.specs.Pair.{member, all, ascending}
-use Rattle.repair.specs.Packing.{those, share, empty}
+use Rattle.repair.specs.Pair.{member, all}
+use Rattle.repair.specs.Packing.{those, share}
 
 pub member-here : (x : ℕ) (xs : List ℕ) → member x (x ∷ xs) ≡ true
 unfolding member
@@ -138,3 +121,11 @@ share-out (z ∷ xs) ys h = go (share-out xs ys) (or-out (member z ys) (share xs
         (member z ys ≡ true) ⊎ (share xs ys ≡ true) → (x : ℕ) × (member x (z ∷ xs) ≡ true) × (member x ys ≡ true)
     go ih (inl k) = (z, member-here z xs, k)
     go ih (inr k) = let (x, m, l) = ih k in (x, member-there x z xs m, l)
+
+-- the numbers that are not in a list, and those not in a longer one
+abbrev pub lacks : List ℕ → ℕ → Bool
+lacks xs x = not (member x xs)
+
+pub lacks-fewer : (xs ys : List ℕ) (x : ℕ) → lacks (xs ++ ys) x ≡ true → lacks ys x ≡ true
+lacks-fewer xs ys x h =
+    not-in (or-off-right (member x xs) (member x ys) (sym (member-append x xs ys) ∙ not-true _ h))

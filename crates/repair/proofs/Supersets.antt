@@ -2,18 +2,18 @@
 -- no more, and less if it is another. Assumes nothing.
 use mathlib.Core.Path.{_≡_, refl, ap, _∙_}
 use mathlib.Core.Logic.{_⊎_, inl, inr, ⊎-map, _≢_}
-use mathlib.Core.Bool.{Bool, true, false, not, _||_}
+use mathlib.Core.Bool.{true, false, _||_}
 use mathlib.Core.List.{List, [], _∷_}
 use Prim.Native.Nat.{ℕ, _+_, _≤_, _<_}
 use native.Mathlib.Omega.{arith}
-use lib.Dec.{eqb}
+use lib.ListN.{length}
 use borrow.Author.Tests.{not-true}
-use Rattle.bits.proofs.Truth.{never, which, same, fails, not-in, not-off, or-left, or-right, or-out, or-off-right}
+use Rattle.bits.proofs.Truth.{never, which, same, fails, not-in, not-off, or-left, or-right, or-out}
 use Rattle.repair.specs.Pair.{member, ascending}
 use Rattle.repair.specs.Better.{price, better}
 use Rattle.repair.specs.Packing.{those}
 use Rattle.repair.proofs.Orders.{better-irreflexive, better-one-way, cheaper-better}
-use Rattle.repair.proofs.Sets.{member-none, member-here, member-there, member-out, those-in, those-out}
+use Rattle.repair.proofs.Sets.{member-none, member-here, member-there, member-out, those-in, those-out, lacks, lacks-fewer}
 use Rattle.repair.proofs.Prices.{price-cons, price-keep, price-drop, price-more}
 use Rattle.repair.proofs.Inserts.{ascending-head, ascending-tail}
 use Rattle.repair.proofs.Toggling.{Parts}
@@ -21,14 +21,6 @@ use Rattle.repair.proofs.Toggling.{Parts}
 -- every number of the first list is one of the second
 abbrev pub Subset : List ℕ → List ℕ → Type 0
 Subset p a = (x : ℕ) → member x p ≡ true → member x a ≡ true
-
--- the numbers that are not in a list
-abbrev pub lacks : List ℕ → ℕ → Bool
-lacks p x = not (member x p)
-
-lacks-fewer : (x : ℕ) (xs : List ℕ) (z : ℕ) → lacks (x ∷ xs) z ≡ true → lacks xs z ≡ true
-unfolding member
-lacks-fewer x xs z h = not-in (or-off-right (eqb z x) (member z xs) (not-true _ h))
 
 -- the first list is the second with numbers left out
 data Thinned : List ℕ → List ℕ → Type 0 where
@@ -67,6 +59,16 @@ thinned (x ∷ xs) (y ∷ ys) up ua sub =
     go same on (inl e) = rw (← e) (keep (same (tail e)))
     go same on (inr m) = skip (on (whole (ascending-head y ys ua x m)))
 
+thinned-shorter : {p a : List ℕ} → Thinned p a → length p ≤ length a
+thinned-shorter none = omega arith
+thinned-shorter (keep r) = omega (arith, thinned-shorter r)
+thinned-shorter (skip r) = omega (arith, thinned-shorter r)
+
+-- a subset has no more numbers
+pub subset-shorter :
+    (p a : List ℕ) → ascending p ≡ true → ascending a ≡ true → Subset p a → length p ≤ length a
+subset-shorter p a up ua sub = thinned-shorter (thinned p a up ua sub)
+
 module _ (toll : ℕ → ℕ) where
   -- what is left out is what the first list lacks
   thinned-price : {p a : List ℕ} → Thinned p a → price toll p + price toll (those (lacks p) a) ≤ price toll a
@@ -78,7 +80,7 @@ module _ (toll : ℕ → ℕ) where
         price-cons toll x xs,
         price-cons toll x ys,
         price-drop toll (lacks (x ∷ xs)) x ys (not-off (member-here x xs)),
-        price-more toll (lacks (x ∷ xs)) (lacks xs) (lacks-fewer x xs) ys,
+        price-more toll (lacks (x ∷ xs)) (lacks xs) (lacks-fewer (x ∷ []) xs) ys,
       )
   thinned-price (skip {y = y} {xs = xs} {ys = ys} r) = go (thinned-price r) (which (lacks xs y))
     where

@@ -3,29 +3,13 @@
 use mathlib.Core.Path.{_≡_, refl, sym, ap, ap₂, _∙_, fun-ext}
 use mathlib.Core.Logic.{_⊎_, inl, inr, ⊎-map, _≢_}
 use mathlib.Core.Bool.{Bool, true, false, not, _&&_, _||_}
-use mathlib.Core.List.{List, [], _∷_}
+use mathlib.Core.List.{List}
 use Prim.Native.Nat.{ℕ, _<_}
 use native.Mathlib.Omega.{arith}
 use lib.Dec.{ltb, eqb}
 use borrow.Author.Tests.{ltb-true, lt-ltb, eqb-true, eqb-false, eq-eqb, ne-eqb, not-true}
 use Rattle.bits.specs.Choice.{pick}
-use Rattle.bits.proofs.Truth.{
-  never,
-  which,
-  same,
-  fails,
-  and-in,
-  and-left,
-  and-right,
-  and-off-left,
-  and-off-right,
-  not-in,
-  or-left,
-  or-right,
-  or-out,
-  pick-true,
-  pick-false,
-}
+use Rattle.bits.proofs.Truth.{never, which, same, fails, and-in, and-left, and-right, not-in, or-left, or-right, or-out, pick-true, pick-false}
 use Rattle.graph.specs.Graph.{IsGraph, within, flipped}
 use Rattle.graph.specs.Graph as graph
 use Rattle.graph.proofs.Flipping.{pair-out, flipped-pair, flipped-other}

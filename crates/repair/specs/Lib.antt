@@ -3,3 +3,4 @@ pub mod Better
 pub mod Repair
 pub mod Packing
 pub mod Tree
+pub mod Depth

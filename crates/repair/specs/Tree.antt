@@ -9,7 +9,7 @@ use Rattle.graph.specs.declared.First.{First}
 use Rattle.graph.specs.declared.First.the-variants.{At, Clear}
 use Rattle.graph.specs.Quad.{quads, first}
 use Rattle.walk.specs.Problem.{Problem, Tally}
-use Rattle.walk.specs.Walk.{walk, begin}
+use Rattle.walk.specs.Walk.{walk, begin, plain}
 use Rattle.walk.specs.Run.{Outcome, run}
 use Rattle.walk.specs.Best.{Order, bestOf}
 use Rattle.repair.specs.Pair.{changeable, member}
@@ -82,10 +82,17 @@ module _ (n : ℕ) (e : ℕ → ℕ → Bool) (toll : ℕ → ℕ) where
   unfoldable pub pruned : Node → ℕ → Bool
   pruned s limit = ltb limit (price toll (s .path) + packing n (free n toll s) toll (quads n (present n e s)))
 
-  -- the whole tree walked: its nodes counted, and what is kept; no way is longer than there are pairs
-  unfoldable pub walked : (Node → ℕ → Bool) → ℕ → Tally (Option (List ℕ))
-  walked cut k = walk tree (bestOf (order toll) k) cut (suc (n * n)) root (begin (bestOf (order toll) k))
+  -- "Both engines, plain and pruned, are public.": is this the pruned one
+  abbrev pub engine : Bool → Node → ℕ → Bool
+  engine false = plain tree
+  engine true = pruned
 
-  -- the same under a step limit
-  unfoldable pub searched : (Node → ℕ → Bool) → ℕ → ℕ → Outcome (Option (List ℕ))
-  searched cut k most = run tree (bestOf (order toll) k) cut most (suc (n * n)) root (begin (bestOf (order toll) k))
+  -- an engine's whole tree walked: its nodes counted, and what is kept; no way down is longer than there are numbers
+  unfoldable pub walked : Bool → ℕ → Tally (Option (List ℕ))
+  walked prune k =
+      walk tree (bestOf (order toll) k) (engine prune) (suc (n * n)) root (begin (bestOf (order toll) k))
+
+  -- the same under the step limit
+  unfoldable pub searched : Bool → ℕ → ℕ → Outcome (Option (List ℕ))
+  searched prune k most =
+      run tree (bestOf (order toll) k) (engine prune) most (suc (n * n)) root (begin (bestOf (order toll) k))
