@@ -1,3 +1,4 @@
 pub mod Order
 pub mod Forest
 pub mod Answer
+pub mod Recogniser

@@ -17,7 +17,7 @@ use Rattle.graph.specs.declared.Finding.the-variants.{Fine, Fault}
 use Rattle.graph.specs.Each.{each}
 use Rattle.graph.specs.Refusal.{firstOf}
 use Rattle.graph.specs.Check.{entry}
-use Rattle.graph.proofs.Leading.{fault-not-fine, firstOf-leading, each-nothing, each-leads}
+use Rattle.graph.proofs.Leading.{firstOf-leading, each-nothing, each-leads, fault-not-fine}
 use Rattle.graph.proofs.Reading.{value, bad, entry-three, entry-four, entry-fine}
 
 -- the place of row i, column j is inside, and the whole is small
