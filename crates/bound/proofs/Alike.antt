@@ -138,7 +138,7 @@ module _ (n : ℕ) (few : n ≤ 128) (prices cost : List ℕ) (C : Costs n price
         go (inl l) = let z : n ≡ 0 = omega arith in absurd (let i = inside in let k : n * n ≡ 0 = rw z refl in omega arith)
         go (inr l) = l
 
-    toll-made : tollAt n cost x ≡ tollOf prices x
+    pub toll-made : tollAt n cost x ≡ tollOf prices x
     unfolding tollAt
     toll-made =
         let high = mod-lt x some in
@@ -153,7 +153,7 @@ module _ (n : ℕ) (few : n ≤ 128) (prices cost : List ℕ) (C : Costs n price
         omega
         (arith, ap (λ p. getD prices p 0) (div-add-mod' x n), prices-small n prices ok (x / n) (x % n) (omega arith) high)
 
-    free-made : freeAt n cost x ≡ changeable n (tollOf prices) x
+    pub free-made : freeAt n cost x ≡ changeable n (tollOf prices) x
     unfolding freeAt changeable
     free-made = go (equal (tollOf prices x) fixed)
       where

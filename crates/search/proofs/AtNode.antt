@@ -24,7 +24,8 @@ use Rattle.repair.specs.Better.{price}
 use Rattle.repair.specs.Packing.{pairsOf, packing}
 use Rattle.repair.specs.Tree.{Node, isClear, waysOf, order, present, tree, engine}
 use Rattle.search.specs.declared.Tally.{Tally}
-use Rattle.search.specs.Table.{tollAt, freeAt, numberAt}
+use Rattle.bound.specs.Table.{tollAt, freeAt}
+use Rattle.search.specs.Table.{numberAt}
 use Rattle.search.specs.Memory as memory
 use Rattle.search.specs.Memory.{Entered, Same, Follows, Kept}
 use Rattle.search.specs.Steps.{runs, left, tries}

@@ -18,24 +18,9 @@ use Rattle.repair.specs.Packing.{pairsOf, packing}
 use Rattle.repair.specs.Tree.{Node, present, free, tree, pruned, engine}
 use Rattle.repair.proofs.Sets.{all-at}
 use Rattle.repair.proofs.Numbers.{pair-below}
-use Rattle.search.specs.Table.{tollAt, freeAt}
+use Rattle.bound.specs.Table.{tollAt, freeAt}
 use Rattle.search.specs.Memory.{At}
-use Rattle.search.proofs.Alike.{packing-alike}
-
--- the numbers of a quad's pairs are below n x n
-pairs-below : (n : ℕ) (e : ℕ → ℕ → Bool) (q : Quad) → Named n e q → (x : ℕ) → member x (pairsOf n q) ≡ true → x < n * n
-pairs-below n e q i x m =
-    ltb-true x (n * n)
-    (all-at (λ y. ltb y (n * n)) x (pairsOf n q)
-    (unfold all pairsOf in
-    and-in (pair (i .a-in) (i .b-in))
-    (and-in (pair (i .a-in) (i .c-in))
-    (and-in (pair (i .a-in) (i .d-in))
-    (and-in (pair (i .b-in) (i .c-in)) (and-in (pair (i .b-in) (i .d-in)) (and-in (pair (i .c-in) (i .d-in)) refl))))))
-    m)
-  where
-    pair : {u v : ℕ} → u < n → v < n → ltb (pairOf n u v) (n * n) ≡ true
-    pair {u} {v} lu lv = lt-ltb (pairOf n u v) (n * n) (pair-below n u v lu lv)
+use Rattle.bound.proofs.Alike.{packing-agrees}
 
 module _
     {n : ℕ} {e : ℕ → ℕ → Bool} {toll : ℕ → ℕ} {s : Node} {words cost path : List ℕ} {count spent : ℕ}
@@ -46,12 +31,8 @@ module _
         packing n (free n toll s) toll (quads n (present n e s))
     packing-read =
         ap (λ g. packing n (freeAt n cost) (tollAt n cost) (quads n g)) (h .edges) ∙
-        packing-alike n (freeAt n cost) (free n toll s) (tollAt n cost) toll (quads n (present n e s))
-        (λ q m x k.
-        record {
-          frees = h .opens x (pairs-below n (present n e s) q (listed-named n (present n e s) q m) x k);
-          costs = h .tolls x;
-        })
+        packing-agrees n (freeAt n cost) (free n toll s) (tollAt n cost) toll (present n e s) (h .opens)
+        (λ x pair open-here. h .tolls x (sym (h .opens x pair) ∙ open-here))
 
     -- "The pruned engine leaves the node if price plus packing bound exceeds the limit."
     pub engine-read :

@@ -5,7 +5,6 @@ pub mod Choosing
 pub mod Placing
 pub mod Runs
 pub mod Safety
-pub mod Alike
 pub mod States
 pub mod Cuts
 pub mod Keeping

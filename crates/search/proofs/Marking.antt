@@ -13,7 +13,7 @@ use lib.Seq.{drop-cons, getD-set-same, getD-set-other, ext-getD}
 use Rattle.bits.proofs.Truth.{never, or-off, equal}
 use Rattle.repair.specs.Pair.{member}
 use Rattle.repair.proofs.Sets.{member-here, member-there}
-use Rattle.search.specs.Table.{Costs, Apart}
+use Rattle.search.specs.Table.{Olds, Apart}
 
 -- the row of a place times n is small
 pub row-small : (n p : ℕ) → n ≤ 128 → p < 16384 → p / 128 * n ≤ 16256

@@ -14,7 +14,7 @@ use Rattle.graph.specs.Quad.{quads, first}
 use Rattle.graph.proofs.Quads.{Named, listed-named, first-listed}
 use Rattle.repair.specs.Packing.{pairsOf, packing}
 use Rattle.search.specs.declared.Tally.{Tally}
-use Rattle.search.specs.Table.{tollAt, freeAt}
+use Rattle.bound.specs.Table.{tollAt, freeAt}
 use Rattle.search.specs.Memory.{pairs, budget, improves, Safe, Sound, Entered, Kept}
 use Rattle.search.specs.Steps.{Ready, Back, Six, NodeLeft, WaysLeft}
 use Rattle.search.proofs.Safety.{pairs-small}

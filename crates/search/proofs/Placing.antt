@@ -1,7 +1,7 @@
 -- The place of a pair in the table and its number tell each other; the places of a quad's six pairs. Assumes nothing.
 use mathlib.Core.Path.{_≡_, refl, sym, ap, ap₂, _∙_}
 use mathlib.Core.Logic.{_≢_}
-use mathlib.Core.Bool.{Bool}
+use mathlib.Core.Bool.{Bool, true}
 use mathlib.Core.List.{List, [], _∷_, map}
 use Prim.Native.Nat.{ℕ, zero, suc, _+_, _*_, _/_, _%_, _≤_, _<_, min, max}
 use native.Mathlib.Nat.{div-add-mod', mod-lt}
@@ -10,9 +10,9 @@ use lib.ListN.{length, getD}
 use Rattle.graph.specs.declared.Quad.{Quad}
 use Rattle.graph.proofs.Facts.{Apart, quad-induced}
 use Rattle.graph.proofs.Quads.{Named}
-use Rattle.repair.specs.Pair.{pairOf}
+use Rattle.repair.specs.Pair.{pairOf, isPair}
 use Rattle.repair.specs.Packing.{pairsOf}
-use Rattle.repair.proofs.Numbers.{pair-low, pair-high, pair-below}
+use Rattle.repair.proofs.Numbers.{pair-low, pair-high, pair-below, pair-is}
 use Rattle.search.specs.Table.{Place, numberAt}
 use Rattle.search.specs.Steps.{Six}
 
@@ -37,6 +37,12 @@ module _ (n p : ℕ) (few : n ≤ 128) (at : Place n p) where
   pub number-below : numberAt n p < n * n
   number-below =
       rw number-pair (pair-below n (p / 128) (p % 128) (omega (arith, at .apart, at .inside)) (at .inside))
+
+  -- it is the number of a pair
+  pub number-is : isPair n (numberAt n p) ≡ true
+  number-is =
+      ap (isPair n) number-pair ∙
+      pair-is n (p / 128) (p % 128) (omega (arith, at .apart, at .inside)) (at .inside) (omega (arith, at .apart))
 
   -- another number has another place
   pub index-apart : (x : ℕ) → x ≢ numberAt n p → index n x ≢ p

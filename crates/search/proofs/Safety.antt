@@ -17,7 +17,8 @@ use Rattle.graph.specs.Graph.{IsGraph, wordEdge, flipped}
 use Rattle.graph.specs.Rows.{Toggled}
 use Rattle.graph.proofs.Flipping.{flipped-graph}
 use Rattle.repair.proofs.Counts.{count-fewer, count-lost}
-use Rattle.search.specs.Table.{tollAt, freeAt, Place, numberAt, openPairs}
+use Rattle.bound.specs.Table.{tollAt, freeAt}
+use Rattle.search.specs.Table.{Place, numberAt, openPairs}
 use Rattle.search.specs.Memory.{pairs, budget, Safe}
 use Rattle.search.proofs.Placing.{index, number-below}
 use Rattle.search.proofs.States.{toll-here, free-here}

@@ -13,7 +13,7 @@ use Rattle.bits.proofs.Truth.{never, fails, same, equal, or-off, or-out}
 use Rattle.graph.specs.Price.{fixed}
 use Rattle.graph.specs.Graph.{wordEdge, flipped}
 use Rattle.graph.specs.Rows.{Toggled}
-use Rattle.repair.specs.Pair.{member, pairOf}
+use Rattle.repair.specs.Pair.{isPair, member, pairOf}
 use Rattle.repair.specs.Better.{price}
 use Rattle.repair.specs.Repair.{toggled}
 use Rattle.repair.specs.Tree.{insert, Node, present, free, mark, add}
@@ -22,10 +22,11 @@ use Rattle.repair.proofs.Inserts.{insert-member}
 use Rattle.repair.proofs.Toggling.{Two, toggled-insert}
 use Rattle.repair.proofs.Nodes.{free-changeable, free-unmarked, free-in, marks-more}
 use Rattle.repair.proofs.Instance.{spent-add}
-use Rattle.search.specs.Table.{tollAt, freeAt, Place, numberAt}
+use Rattle.bound.specs.Table.{tollAt, freeAt}
+use Rattle.search.specs.Table.{Place, numberAt}
 use Rattle.search.specs.Trail.{Put}
 use Rattle.search.specs.Memory.{At}
-use Rattle.search.proofs.Placing.{index, number-pair, number-index, number-below, index-apart}
+use Rattle.search.proofs.Placing.{index, number-pair, number-index, number-is, index-apart}
 
 module _ (n : ℕ) (toll : ℕ → ℕ) (s : Node) (w : ℕ) where
   -- one mark more: that pair is free no longer, the others are as before
@@ -71,12 +72,12 @@ module _
         let here : freeAt n cost x ≡ ltb (getD cost p 0) fixed =
         unfold freeAt in ap (λ c. ltb c fixed) (toll-here n cost p few at fits)
         in
-        sym (h .opens x (number-below n p few at)) ∙ here
+        sym (h .opens x (number-is n p few at)) ∙ here
 
     pub at-toll : free n toll s x ≡ true → toll x ≡ getD cost p 0
     at-toll f = sym (h .tolls x f) ∙ toll-here n cost p few at fits
 
-    opens-mark : (y : ℕ) → y < n * n → freeAt n (set cost p fixed) y ≡ free n toll (mark s x) y
+    opens-mark : (y : ℕ) → isPair n y ≡ true → freeAt n (set cost p fixed) y ≡ free n toll (mark s x) y
     opens-mark y l = go (equal y x)
       where
         go : (y ≡ x) ⊎ (y ≢ x) → freeAt n (set cost p fixed) y ≡ free n toll (mark s x) y

@@ -11,7 +11,7 @@ use Rattle.walk.specs.Problem as problem
 use Rattle.repair.specs.Pair.{member}
 use Rattle.repair.specs.Tree.{Node}
 use Rattle.search.specs.declared.Tally.{Tally}
-use Rattle.search.specs.Table.{openPairs, Costs, Apart}
+use Rattle.search.specs.Table.{openPairs, Olds, Apart}
 use Rattle.search.specs.Memory.{Safe, Sound, At, Same}
 use Rattle.search.specs.Steps.{left, Ready, Six, Back, WayLeft, WaysLeft}
 use Rattle.search.proofs.Marking.{entry-member, apart-same, apart-set}

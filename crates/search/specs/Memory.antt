@@ -13,11 +13,12 @@ use Rattle.graph.specs.Rows.{AreWords}
 use Rattle.walk.specs.Problem as problem
 use Rattle.walk.specs.Run.{Outcome, stopped, whole}
 use Rattle.walk.specs.Best.{limitOf}
-use Rattle.repair.specs.Pair.{member}
+use Rattle.repair.specs.Pair.{isPair, member}
 use Rattle.repair.specs.Better.{price, smaller}
 use Rattle.repair.specs.Tree.{Node, order, present, free}
 use Rattle.search.specs.declared.Tally.{Tally}
-use Rattle.search.specs.Table.{tollAt, freeAt, Place, openPairs}
+use Rattle.bound.specs.Table.{tollAt, freeAt}
+use Rattle.search.specs.Table.{Place, openPairs}
 
 -- "n(n-1)/2": how many pairs n vertices have
 unfoldable pub pairs : ℕ → ℕ
@@ -54,7 +55,7 @@ pub record Entered (t here : Tally) : Type 0 where
 -- the memory stands for the node s of the tree of the graph e at the prices `toll`
 pub record At (n : ℕ) (e : ℕ → ℕ → Bool) (toll : ℕ → ℕ) (s : Node) (words cost path : List ℕ) (count spent : ℕ) : Type 0 where
   pub edges : wordEdge words ≡ present n e s
-  pub opens : (x : ℕ) → x < n * n → freeAt n cost x ≡ free n toll s x
+  pub opens : (x : ℕ) → isPair n x ≡ true → freeAt n cost x ≡ free n toll s x
   pub tolls : (x : ℕ) → free n toll s x ≡ true → tollAt n cost x ≡ toll x
   pub trail : take count path ≡ s .path
   pub price : spent ≡ price toll (s .path)

@@ -1,21 +1,13 @@
 -- The working table of costs: row i, column j at i x 128 + j, and the places of pairs in it. Assumes nothing.
 use mathlib.Core.Path.{_≡_}
-use mathlib.Core.Bool.{Bool, false, _&&_}
+use mathlib.Core.Bool.{false}
 use mathlib.Core.List.{List}
-use Prim.Native.Nat.{ℕ, _+_, _*_, _-_, _/_, _%_, _<_}
+use Prim.Native.Nat.{ℕ, _+_, _*_, _/_, _%_, _<_}
 use lib.ListN.{length, getD, set}
-use lib.Dec.{ltb}
-use Rattle.bits.specs.Choice.{pick, count}
+use Rattle.bits.specs.Choice.{count}
 use Rattle.graph.specs.Price.{fixed}
 use Rattle.repair.specs.Pair.{member}
-
--- what the pair with the number x, of n vertices, costs: row x / n, column x % n
-unfoldable pub tollAt : ℕ → List ℕ → ℕ → ℕ
-tollAt n cost x = getD cost (x / n * 128 + x % n) 0
-
--- "A pair is free if it is neither fixed nor marked": then it costs less than 65,535
-unfoldable pub freeAt : ℕ → List ℕ → ℕ → Bool
-freeAt n cost x = ltb (tollAt n cost x) fixed
+use Rattle.bound.specs.Table.{freeAt}
 
 -- p is the place of a pair of the n vertices: row p / 128, column p % 128
 pub record Place (n p : ℕ) : Type 0 where
@@ -36,7 +28,7 @@ pub record Marked (p : ℕ) (before after : List ℕ) (r : ℕ) : Type 0 where
   pub stored : after ≡ set before p fixed
 
 -- the costs at six places
-pub record Costs (cost places old : List ℕ) : Type 0 where
+pub record Olds (cost places old : List ℕ) : Type 0 where
   pub six : length old ≡ 6
   pub each : (w : ℕ) → w < 6 → getD old w 0 ≡ getD cost (getD places w 0) 0
 
@@ -44,9 +36,3 @@ pub record Costs (cost places old : List ℕ) : Type 0 where
 pub record Apart (places first second : List ℕ) : Type 0 where
   pub long : length second ≡ length first
   pub others : (p : ℕ) → member p places ≡ false → getD second p 0 ≡ getD first p 0
-
--- the table of the n x n prices: the pairs' prices, and 65,535 everywhere else
-pub record Tabled (n : ℕ) (ps cost : List ℕ) : Type 0 where
-  pub long : length cost ≡ 16384
-  pub costs :
-      (i j : ℕ) → i < 128 → j < 128 → getD cost (i * 128 + j) 0 ≡ pick (ltb i j && ltb j n) (getD ps (i * n + j) 0) fixed

@@ -8,11 +8,11 @@ ghost use Rattle.graph.specs.Graph.{IsGraph, wordEdge};
 ghost use Rattle.graph.specs.Quad.{quads};
 ghost use Rattle.graph.specs.Rows.{Toggled};
 ghost use Rattle.repair.specs.Packing.{packing};
-ghost use Rattle.search.specs.Table.{tollAt, freeAt, Place, numberAt};
+ghost use Rattle.bound.specs.Table.{tollAt, freeAt};
+ghost use Rattle.search.specs.Table.{Place, numberAt};
 ghost use Rattle.search.specs.Trail.{Put, Closed};
 ghost use Rattle.search.specs.Memory.{Entered, Kept, improves, budget};
 use crate::Tally;
-use crate::stand;
 use crate::table;
 use crate::trail;
 
@@ -49,7 +49,7 @@ pub fn leaves(words: &[u64], cost: &[u16], n: usize, prune: bool, spent: u32, li
     ensures { λ r. ⌜ r ≡ (prune && ltb limit (spent + packing n (freeAt n (now (cost .entry))) (tollAt n (now (cost .entry))) (quads n (wordEdge (now (words .entry)))))) ⌝ }
 {
     if prune {
-        return stand::cut(words, cost, n, spent, limit);
+        return bound::pack::cut(words, cost, n, spent, limit);
     }
     false
 }

@@ -16,7 +16,6 @@ ghost use Rattle.search.specs.Ends.{Told, Engaged};
 use graph::Finding;
 
 pub mod leaf;
-pub mod stand;
 pub mod table;
 pub mod trail;
 pub mod tree;
@@ -101,7 +100,7 @@ fn contents(n: usize, graph: &[u8], prices: &[u16], k: u32, list: &[u16]) -> Fin
     } = found {
         return found;
     }
-    let priced = stand::price_entries(n, prices);
+    let priced = bound::prices::price_entries(n, prices);
     if let Finding::Fault {
         number: _,
         row: _,
@@ -164,7 +163,7 @@ fn engine(
     ensures { λ r. ⌜ Meant prune n (rowEdge rows) (tollOf (now (prices .entry))) k most (now (list .entry)) r (now (list .exit)) ⌝ }
 {
     let mut words = graph::rows::flat_of(rows);
-    let mut cost = stand::table_of(n, prices);
+    let mut cost = bound::prices::costs(n, prices);
     let mut path = [0u16; 8128];
     let mut kept = [0u16; 8128];
     let start = Tally {

@@ -5,7 +5,7 @@ ghost use mathlib.Core.List.{List};
 ghost use lib.ListN.{length, getD};
 ghost use Rattle.repair.specs.Pair.{pairOf};
 ghost use Rattle.repair.specs.Packing.{pairsOf};
-ghost use Rattle.search.specs.Table.{numberAt, Marked, Costs, Apart};
+ghost use Rattle.search.specs.Table.{numberAt, Marked, Olds, Apart};
 
 // The place of the pair of x and y.
 fn place(x: usize, y: usize) -> u16
@@ -54,7 +54,7 @@ pub fn mark(cost: &mut [u16], p: usize) -> u16
 // The costs at the six places.
 pub fn costs(cost: &[u16], places: [u16; 6]) -> [u16; 6]
     requires { ⌜ ((w : ℕ) → w < 6 → getD places w 0 < length (now cost)) ⌝ }
-    ensures { λ r. ⌜ Costs (now (cost .entry)) places r ⌝ }
+    ensures { λ r. ⌜ Olds (now (cost .entry)) places r ⌝ }
 {
     let mut old = [0u16; 6];
     let mut w = 0;
@@ -68,7 +68,7 @@ pub fn costs(cost: &[u16], places: [u16; 6]) -> [u16; 6]
 // The six places cost again what they did.
 pub fn restore(cost: &mut [u16], places: [u16; 6], old: [u16; 6])
     requires { ⌜ (length old ≡ 6) × (length places ≡ 6) × ((w : ℕ) → w < 6 → getD places w 0 < length (now cost)) ⌝ }
-    ensures { λ _. ⌜ ((first : List ℕ) → Costs first places old → Apart places first (now (cost .entry)) → now (cost .exit) ≡ first) ⌝ }
+    ensures { λ _. ⌜ ((first : List ℕ) → Olds first places old → Apart places first (now (cost .entry)) → now (cost .exit) ≡ first) ⌝ }
 {
     let mut w = 0;
     while w < 6 {

@@ -9,66 +9,49 @@ use Rattle.search.proofs.Ending.{told-searched, meant}
 use borrow.Author.Needs.{needs}
 use Rattle.search.proofs.engine.Statement.{statement}
 use Rattle.search.proofs.engine.Tie as tie
-use Rattle.search.proofs.engine.Reads as reads
-use Rattle.search.proofs.engine.Lts as lts
-use Rattle.graph.proofs.rows.flat_of.Reads as flat-of-reads
-use Rattle.search.proofs.stand.table_of.Reads as table-of-reads
-use Rattle.search.proofs.told.Reads as told-reads
-use Rattle.search.proofs.tree.node.Reads as node-reads
 
--- src/lib.rt:157:21
 flat-of-requires : tie.Need-flat-of-requires
 flat-of-requires c κs = search needs
 
--- src/lib.rt:158:20
-table-of-requires : tie.Need-table-of-requires
-table-of-requires c κs = search needs
+costs-requires : tie.Need-costs-requires
+costs-requires c κs = search needs
 
--- src/lib.rt:166:24
 slice-aggregate-node : tie.Need-slice-aggregate-node
 slice-aggregate-node c = search needs
 
--- src/lib.rt:166:36
 slice-aggregate-node-2 : tie.Need-slice-aggregate-node-2
 slice-aggregate-node-2 c = search needs
 
--- src/lib.rt:166:47
 slice-aggregate-node-3 : tie.Need-slice-aggregate-node-3
 slice-aggregate-node-3 c = search needs
 
--- src/lib.rt:166:58
 slice-aggregate-node-4 : tie.Need-slice-aggregate-node-4
 slice-aggregate-node-4 c = search needs
 
--- src/lib.rt:166:9
 node-requires : tie.Need-node-requires
 node-requires c κs =
     let s = c .before .before .before .before .before .before .before .before in
-    (ready-root _ _ (s .pre) (c .before .before .before .before .before .flat-of .ensures) (c .before .before .before .before .table-of .ensures) refl refl (s .args .most) (omega (arith, s .fits .most)), omega arith)
+    (ready-root _ _ (s .pre) (c .before .before .before .before .before .flat-of .ensures) (c .before .before .before .before .costs .ensures) refl refl (s .args .most) (omega (arith, s .fits .most)), omega arith)
 
--- src/lib.rt:167:19
 slice-aggregate-told : tie.Need-slice-aggregate-told
 slice-aggregate-told c = search needs
 
--- src/lib.rt:167:5
 told-requires : tie.Need-told-requires
 told-requires c κs =
     let s = c .before .before .before .before .before .before .before .before .before .before .before .before .before .before .before in
     let d = c .before .before .before .before .before .before .node in
     (omega (arith, d .ensures .sound .listed, d .kept, pairs-small (s .args .n) (s .pre .few)), omega (arith, d .ensures .sound .listed, s .pre .room))
 
--- src/lib.rt:153:1
 same-length : tie.Need-same-length
 same-length c = search needs
 
--- src/lib.rt:153:1
 returns : tie.Need-returns
 returns c =
     let s = c .before .before .before .before .before .before .before .before .before .before .before .before .before .before .before .before .before .before in
     let d = c .before .before .before .before .before .before .before .before .before .node in
     let told = c .before .before .told in
     let flat = c .before .before .before .before .before .before .before .before .before .before .before .before .before .before .before .flat-of .ensures in
-    let made = c .before .before .before .before .before .before .before .before .before .before .before .before .before .before .table-of .ensures in (
+    let made = c .before .before .before .before .before .before .before .before .before .before .before .before .before .before .costs .ensures in (
       told-searched (s .args .most) (d .result) (d .last .1 .1 .1 .0) (s .args .list .now) (told .result) (told .last .1 .1 .1 .0) (told .ensures),
       meant (s .args .prune) (s .args .n) (rowEdge (s .args .rows)) (tollOf (s .args .prices .now)) (s .args .k) (s .args .most) (d .last .1 .1 .1 .0) (s .args .list .now) (d .result)
           (s .pre .graph) (tolls-positive (s .args .n) (s .args .prices .now) (s .pre .priced))
@@ -80,7 +63,7 @@ engine-spec =
     tie.close
     (tie.spec
     flat-of-requires
-    table-of-requires
+    costs-requires
     slice-aggregate-node
     slice-aggregate-node-2
     slice-aggregate-node-3

@@ -6,25 +6,19 @@ use Rattle.search.specs.Memory.{pairs}
 use borrow.Author.Needs.{needs}
 use Rattle.search.proofs.pairs_of.Statement.{statement}
 use Rattle.search.proofs.pairs_of.Tie as tie
-use Rattle.search.proofs.pairs_of.Reads as reads
-use Rattle.search.proofs.pairs_of.Lts as lts
 
--- src/lib.rt:70:9
 returns : tie.Need-returns
 unfolding pairs
 returns c = sym (ap (λ n. n * (n - 1) / 2) (c .if1 .taken))
 
--- src/lib.rt:72:10
 sub-result : tie.Need-sub-result
 sub-result c = search needs
 
--- src/lib.rt:72:5
 mul-result : tie.Need-mul-result
 mul-result c =
     let n = c .before .args .n in
     omega (arith, mul-le-mul {n₁ = n} {m₁ = n - 1} {n₂ = 128} {m₂ = 127} (c .before .pre) (omega arith))
 
--- src/lib.rt:65:1
 returns-2 : tie.Need-returns-2
 unfolding pairs
 returns-2 c = refl

@@ -4,48 +4,34 @@ use Rattle.search.proofs.Refusing.{square-small, many-refused, graph-re
 use borrow.Author.Needs.{needs}
 use Rattle.search.proofs.refuse.Statement.{statement}
 use Rattle.search.proofs.refuse.Tie as tie
-use Rattle.search.proofs.refuse.Reads as reads
-use Rattle.search.proofs.refuse.Lts as lts
-use Rattle.search.proofs.contents.Reads as contents-reads
-use Rattle.search.proofs.fault.Reads as fault-reads
 
--- src/lib.rt:120:9
 fault-requires : tie.Need-fault-requires
 fault-requires c κs = search needs
 
--- src/lib.rt:120:9
 returns : tie.Need-returns
 returns c = let a = c .before .before .before .before .before .args in c .fault .ensures ∙ many-refused (a .n) (a .graph .now) (a .prices .now) (a .k) (a .list .now) (c .before .if1 .taken)
 
--- src/lib.rt:122:23
 mul-if2 : tie.Need-mul-if2
 mul-if2 c = omega (arith, square-small (c .before .before .before .before .args .n) (c .if1 .left))
 
--- src/lib.rt:123:9
 fault-requires-2 : tie.Need-fault-requires-2
 fault-requires-2 c κs = search needs
 
--- src/lib.rt:123:9
 returns-2 : tie.Need-returns-2
 returns-2 c = let a = c .before .before .before .before .before .before .args in c .fault2 .ensures ∙ graph-refused (a .n) (a .graph .now) (a .prices .now) (a .k) (a .list .now) (c .before .before .if1 .left) (c .before .if2 .taken)
 
--- src/lib.rt:125:24
 mul-if3 : tie.Need-mul-if3
 mul-if3 c = search needs
 
--- src/lib.rt:126:9
 fault-requires-3 : tie.Need-fault-requires-3
 fault-requires-3 c κs = search needs
 
--- src/lib.rt:126:9
 returns-3 : tie.Need-returns-3
 returns-3 c = let a = c .before .before .before .before .before .before .before .args in c .fault3 .ensures ∙ prices-refused (a .n) (a .graph .now) (a .prices .now) (a .k) (a .list .now) (c .before .before .before .if1 .left) (c .before .before .if2 .left) (c .before .if3 .taken)
 
--- src/lib.rt:128:5
 contents-requires : tie.Need-contents-requires
 contents-requires c κs = search needs
 
--- src/lib.rt:116:1
 returns-4 : tie.Need-returns-4
 returns-4 c = let a = c .before .before .before .before .before .before .before .args in c .contents .ensures ∙ sizes-passed (a .n) (a .graph .now) (a .prices .now) (a .k) (a .list .now) (c .before .before .before .if1 .left) (c .before .before .if2 .left) (c .before .if3 .left)
 

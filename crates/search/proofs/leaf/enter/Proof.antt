@@ -3,33 +3,22 @@ use native.Mathlib.Omega.{arith}
 use borrow.Author.Needs.{needs}
 use Rattle.search.proofs.leaf.enter.Statement.{statement}
 use Rattle.search.proofs.leaf.enter.Tie as tie
-use Rattle.search.proofs.leaf.enter.Reads as reads
-use Rattle.search.proofs.leaf.enter.Lts as lts
-use Rattle.graph.proofs.rows.toggle.Reads as toggle-reads
-use Rattle.search.proofs.table.number.Reads as number-reads
-use Rattle.search.proofs.trail.put.Reads as put-reads
 
--- src/leaf.rt:64:5
 toggle-requires : tie.Need-toggle-requires
 toggle-requires c κs = search needs
 
--- src/leaf.rt:65:29
 number-requires : tie.Need-number-requires
 number-requires c κs = search needs
 
--- src/leaf.rt:65:5
 put-requires : tie.Need-put-requires
 put-requires c κs = search needs
 
--- src/leaf.rt:58:1
 same-length : tie.Need-same-length
 same-length c = search needs
 
--- src/leaf.rt:58:1
 same-length-2 : tie.Need-same-length-2
 same-length-2 c = search needs
 
--- src/leaf.rt:58:1
 returns : tie.Need-returns
 returns c = (c .before .before .before .before .before .before .before .toggle .ensures, rw (← c .before .before .before .number .ensures) (c .before .before .put .ensures))
 

@@ -7,39 +7,28 @@ use Rattle.search.proofs.Choosing.{improves-first, improves-cheaper, im
 use borrow.Author.Needs.{needs}
 use Rattle.search.proofs.leaf.improves.Statement.{statement}
 use Rattle.search.proofs.leaf.improves.Tie as tie
-use Rattle.search.proofs.leaf.improves.Reads as reads
-use Rattle.search.proofs.leaf.improves.Lts as lts
-use Rattle.search.proofs.trail.precedes.Reads as precedes-reads
 
--- src/leaf.rt:86:9
 returns : tie.Need-returns
 returns c = let a = c .before .before .before .before .args in improves-first (take (a .count) (a .path .now)) (a .kept .now) (a .count) (a .spent) (a .t) (c .if1 .taken)
 
--- src/leaf.rt:89:9
 returns-2 : tie.Need-returns-2
 returns-2 c = let a = c .before .before .before .before .before .before .args in improves-cheaper (take (a .count) (a .path .now)) (a .kept .now) (a .count) (a .spent) (a .t) (c .if2 .taken)
 
--- src/leaf.rt:92:9
 returns-3 : tie.Need-returns-3
 returns-3 c = let a = c .before .before .before .before .before .before .before .before .args in improves-dearer (take (a .count) (a .path .now)) (a .kept .now) (a .count) (a .spent) (a .t) (c .before .before .before .before .if1 .left) (c .if3 .taken)
 
--- src/leaf.rt:94:16
 sub-most : tie.Need-sub-most
 sub-most c = search needs
 
--- src/leaf.rt:95:21
 slice-aggregate-precedes : tie.Need-slice-aggregate-precedes
 slice-aggregate-precedes c = let a = c .before .before .before .before .before .before .before .before .before .before .args in sym (length-take-le (a .count) (a .path .now) (c .before .before .before .before .before .before .before .before .before .before .pre .0))
 
--- src/leaf.rt:95:37
 slice-aggregate-precedes-2 : tie.Need-slice-aggregate-precedes-2
 slice-aggregate-precedes-2 c = let a = c .before .before .before .before .before .before .before .before .before .before .before .args in sym (length-take-le (a .t .kept - 1) (a .kept .now) (omega (arith, c .before .before .before .before .before .before .before .before .before .before .before .pre .1)))
 
--- src/leaf.rt:95:5
 precedes-requires : tie.Need-precedes-requires
 precedes-requires c κs = search needs
 
--- src/leaf.rt:81:1
 returns-4 : tie.Need-returns-4
 returns-4 c = let a = c .before .before .before .before .before .before .before .before .before .before .before .before .args in c .precedes .ensures ∙ improves-level (take (a .count) (a .path .now)) (a .kept .now) (a .count) (a .spent) (a .t) (c .before .before .before .before .before .before .before .before .if1 .left) (omega (arith, c .before .before .before .before .if3 .left, c .before .before .before .before .before .before .if2 .left))
 

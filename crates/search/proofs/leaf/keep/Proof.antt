@@ -6,36 +6,25 @@ use borrow.Author.Tests.{not-true, not-false}
 use borrow.Author.Needs.{needs}
 use Rattle.search.proofs.leaf.keep.Statement.{statement}
 use Rattle.search.proofs.leaf.keep.Tie as tie
-use Rattle.search.proofs.leaf.keep.Reads as reads
-use Rattle.search.proofs.leaf.keep.Lts as lts
-use Rattle.search.proofs.leaf.improves.Reads as improves-reads
-use Rattle.search.proofs.trail.copy.Reads as copy-reads
 
--- src/leaf.rt:103:9
 improves-requires : tie.Need-improves-requires
 improves-requires c κs = search needs
 
--- src/leaf.rt:104:9
 same-length : tie.Need-same-length
 same-length c = search needs
 
--- src/leaf.rt:104:9
 returns : tie.Need-returns
 returns c = let a = c .before .before .before .before .before .args in kept-not (take (a .count) (a .path .now)) (a .kept .now) (a .count) (a .spent) (a .t) (sym (c .before .improves .ensures) ∙ not-true _ (c .if1 .taken))
 
--- src/leaf.rt:106:5
 copy-requires : tie.Need-copy-requires
 copy-requires c κs = search needs
 
--- src/leaf.rt:110:15
 add-t13 : tie.Need-add-t13
 add-t13 c = search needs
 
--- src/leaf.rt:99:1
 same-length-2 : tie.Need-same-length-2
 same-length-2 c = search needs
 
--- src/leaf.rt:99:1
 returns-2 : tie.Need-returns-2
 returns-2 c = let a = c .before .before .before .before .before .before .before .before .before .args in kept-new (take (a .count) (a .path .now)) (a .kept .now) (a .count) (a .spent) (a .t) (c .before .before .copy .last .1 .0) (sym (c .before .before .before .before .before .improves .ensures) ∙ not-false _ (c .before .before .before .before .if1 .left)) (c .before .before .copy .ensures)
 

@@ -3,19 +3,13 @@ use native.Mathlib.Omega.{arith}
 use borrow.Author.Needs.{needs}
 use Rattle.search.proofs.leaf.leaves.Statement.{statement}
 use Rattle.search.proofs.leaf.leaves.Tie as tie
-use Rattle.search.proofs.leaf.leaves.Reads as reads
-use Rattle.search.proofs.leaf.leaves.Lts as lts
-use Rattle.search.proofs.stand.cut.Reads as cut-reads
 
--- src/leaf.rt:52:9
 cut-requires : tie.Need-cut-requires
 cut-requires c κs = search needs
 
--- src/leaf.rt:52:9
 returns : tie.Need-returns
 returns c = rw (c .before .if1 .taken) (c .cut .ensures)
 
--- src/leaf.rt:46:1
 returns-2 : tie.Need-returns-2
 returns-2 c = search needs
 

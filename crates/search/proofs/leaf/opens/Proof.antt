@@ -4,22 +4,16 @@ use Rattle.search.proofs.Choosing.{enters-stopped, enters-fixed, enters
 use borrow.Author.Needs.{needs}
 use Rattle.search.proofs.leaf.opens.Statement.{statement}
 use Rattle.search.proofs.leaf.opens.Tie as tie
-use Rattle.search.proofs.leaf.opens.Reads as reads
-use Rattle.search.proofs.leaf.opens.Lts as lts
 
--- src/leaf.rt:37:9
 returns : tie.Need-returns
 returns c = let a = c .before .before .args in enters-stopped (a .t .steps) (a .most) (a .price) (a .spent) (a .t .limit) (c .if1 .taken)
 
--- src/leaf.rt:40:9
 returns-2 : tie.Need-returns-2
 returns-2 c = let a = c .before .before .before .args in enters-fixed (a .t .steps) (a .most) (a .price) (a .spent) (a .t .limit) (c .if2 .taken)
 
--- src/leaf.rt:42:5
 add-result : tie.Need-add-result
 add-result c = search needs
 
--- src/leaf.rt:32:1
 returns-3 : tie.Need-returns-3
 returns-3 c = let a = c .before .before .before .before .args in enters-open (a .t .steps) (a .most) (a .price) (a .spent) (a .t .limit) (c .before .before .if1 .left) (c .before .if2 .left) (omega (arith, c .before .before .before .before .fits .price))
 

@@ -6,8 +6,6 @@ use Rattle.search.proofs.Marking.{Told, told-next}
 use borrow.Author.Needs.{needs}
 use Rattle.search.proofs.table.costs.Statement.{statement}
 use Rattle.search.proofs.table.costs.Tie as tie
-use Rattle.search.proofs.table.costs.Reads as reads
-use Rattle.search.proofs.table.costs.Lts as lts
 
 abbrev Inv-loop : tie.InvT-loop
 Inv-loop cost places old₀ w₀ old w = (w ≤ 6) × (length old ≡ 6) × Told cost places w old
@@ -15,54 +13,42 @@ Inv-loop cost places old₀ w₀ old w = (w ≤ 6) × (length old ≡ 6) × Told
 abbrev μ-loop : tie.MeasureT-loop
 μ-loop cost places old₀ w₀ old w = 6 - w
 
--- src/table.rt:54:5
 loop-holds : tie.Need-loop-holds Inv-loop μ-loop
 loop-holds c = search needs
 
--- src/table.rt:55:23
 mul-old : tie.Need-mul-old Inv-loop μ-loop
 mul-old c = search needs
 
--- src/table.rt:55:23
 array-read-old : tie.Need-array-read-old Inv-loop μ-loop
 array-read-old c = search needs
 
--- src/table.rt:55:23
 cast-old : tie.Need-cast-old Inv-loop μ-loop
 cast-old c = search needs
 
--- src/table.rt:55:18
 mul-old-2 : tie.Need-mul-old-2 Inv-loop μ-loop
 mul-old-2 c = omega (arith, c .before .before .pre (c .before .loop .w) (c .loop-test .taken), c .before .before .good)
 
--- src/table.rt:55:18
 shared-slice-read-old : tie.Need-shared-slice-read-old Inv-loop μ-loop
 shared-slice-read-old c = c .before .before .before .pre (c .before .before .loop .w) (c .before .loop-test .taken)
 
--- src/table.rt:55:9
 mul-old-3 : tie.Need-mul-old-3 Inv-loop μ-loop
 mul-old-3 c = search needs
 
--- src/table.rt:55:9
 array-write-old : tie.Need-array-write-old Inv-loop μ-loop
 array-write-old c = search needs
 
--- src/table.rt:56:9
 add-w : tie.Need-add-w Inv-loop μ-loop
 add-w c = search needs
 
--- src/table.rt:54:5
 loop-less : tie.Need-loop-less Inv-loop μ-loop
 loop-less c = search needs
 
--- src/table.rt:54:5
 loop-again : tie.Need-loop-again Inv-loop μ-loop
 loop-again c =
     let l = c .before .before .loop in
     let a = c .before .before .before .args in
     (search needs, simp length-set (l .inv .1), told-next (a .cost .now) (a .t2) (l .old) (l .w) (omega arith) (l .inv .2))
 
--- src/table.rt:48:1
 returns : tie.Need-returns Inv-loop μ-loop
 returns c =
     let l = c .before .loop in

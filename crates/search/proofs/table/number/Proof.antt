@@ -7,22 +7,16 @@ use Rattle.search.specs.Table.{numberAt}
 use borrow.Author.Needs.{needs}
 use Rattle.search.proofs.table.number.Statement.{statement}
 use Rattle.search.proofs.table.number.Tie as tie
-use Rattle.search.proofs.table.number.Reads as reads
-use Rattle.search.proofs.table.number.Lts as lts
 
--- src/table.rt:34:6
 mul-result : tie.Need-mul-result
 mul-result c = omega (arith, row-small (c .args .n) (c .args .p) (c .pre .0) (c .pre .1))
 
--- src/table.rt:34:6
 add-result : tie.Need-add-result
 add-result c = omega (arith, row-small (c .args .n) (c .args .p) (c .pre .0) (c .pre .1))
 
--- src/table.rt:34:5
 cast-result : tie.Need-cast-result
 cast-result c = omega (arith, row-small (c .args .n) (c .args .p) (c .pre .0) (c .pre .1))
 
--- src/table.rt:30:1
 returns : tie.Need-returns
 unfolding numberAt
 returns c = refl

@@ -6,39 +6,29 @@ use Rattle.repair.specs.Pair.{pairOf}
 use borrow.Author.Needs.{needs}
 use Rattle.search.proofs.table.place.Statement.{statement}
 use Rattle.search.proofs.table.place.Tie as tie
-use Rattle.search.proofs.table.place.Reads as reads
-use Rattle.search.proofs.table.place.Lts as lts
 
--- src/table.rt:16:17
 mul-result : tie.Need-mul-result
 mul-result c = search needs
 
--- src/table.rt:16:17
 add-result : tie.Need-add-result
 add-result c = search needs
 
--- src/table.rt:16:16
 cast-result : tie.Need-cast-result
 cast-result c = search needs
 
--- src/table.rt:16:9
 returns : tie.Need-returns
 unfolding pairOf
 returns c = omega arith
 
--- src/table.rt:18:6
 mul-result-2 : tie.Need-mul-result-2
 mul-result-2 c = search needs
 
--- src/table.rt:18:6
 add-result-2 : tie.Need-add-result-2
 add-result-2 c = search needs
 
--- src/table.rt:18:5
 cast-result-2 : tie.Need-cast-result-2
 cast-result-2 c = search needs
 
--- src/table.rt:11:1
 returns-2 : tie.Need-returns-2
 unfolding pairOf
 returns-2 c = omega arith

@@ -6,35 +6,25 @@ use Rattle.repair.specs.Packing.{pairsOf}
 use borrow.Author.Needs.{needs}
 use Rattle.search.proofs.table.places.Statement.{statement}
 use Rattle.search.proofs.table.places.Tie as tie
-use Rattle.search.proofs.table.places.Reads as reads
-use Rattle.search.proofs.table.places.Lts as lts
-use Rattle.search.proofs.table.place.Reads as place-reads
 
--- src/table.rt:26:6
 place-requires : tie.Need-place-requires
 place-requires c κs = search needs
 
--- src/table.rt:26:23
 place-requires-2 : tie.Need-place-requires-2
 place-requires-2 c κs = search needs
 
--- src/table.rt:26:40
 place-requires-3 : tie.Need-place-requires-3
 place-requires-3 c κs = search needs
 
--- src/table.rt:26:57
 place-requires-4 : tie.Need-place-requires-4
 place-requires-4 c κs = search needs
 
--- src/table.rt:26:74
 place-requires-5 : tie.Need-place-requires-5
 place-requires-5 c κs = search needs
 
--- src/table.rt:26:91
 place-requires-6 : tie.Need-place-requires-6
 place-requires-6 c κs = search needs
 
--- src/table.rt:22:1
 returns : tie.Need-returns
 unfolding pairsOf
 returns c = cc

@@ -3,63 +3,50 @@ use Prim.Native.Nat.{ℕ, _+_, _-_, _≤_, _<_}
 use native.Mathlib.Omega.{arith}
 use lib.ListN.{length, getD, take, drop, length-set, drop-of-length-le}
 use mathlib.Core.List.{List}
-use Rattle.search.specs.Table.{Costs, Apart}
+use Rattle.search.specs.Table.{Olds, Apart}
 use Rattle.search.proofs.Marking.{apart-back, apart-none}
 use borrow.Author.Needs.{needs}
 use Rattle.search.proofs.table.restore.Statement.{statement}
 use Rattle.search.proofs.table.restore.Tie as tie
-use Rattle.search.proofs.table.restore.Reads as reads
-use Rattle.search.proofs.table.restore.Lts as lts
 
 abbrev Inv-loop : tie.InvT-loop
 Inv-loop cost₀ places old w₀ cost w =
     (w ≤ 6) × (length cost ≡ length cost₀) ×
-    ((first : List ℕ) → Costs first places old → Apart places first cost₀ → Apart (drop w places) first cost)
+    ((first : List ℕ) → Olds first places old → Apart places first cost₀ → Apart (drop w places) first cost)
 
 abbrev μ-loop : tie.MeasureT-loop
 μ-loop cost₀ places old w₀ cost w = 6 - w
 
--- src/table.rt:67:5
 loop-holds : tie.Need-loop-holds Inv-loop μ-loop
 loop-holds c = search needs
 
--- src/table.rt:68:36
 mul-cost : tie.Need-mul-cost Inv-loop μ-loop
 mul-cost c = search needs
 
--- src/table.rt:68:36
 array-read-cost : tie.Need-array-read-cost Inv-loop μ-loop
 array-read-cost c = search needs
 
--- src/table.rt:68:14
 mul-cost-2 : tie.Need-mul-cost-2 Inv-loop μ-loop
 mul-cost-2 c = search needs
 
--- src/table.rt:68:14
 array-read-cost-2 : tie.Need-array-read-cost-2 Inv-loop μ-loop
 array-read-cost-2 c = search needs
 
--- src/table.rt:68:14
 cast-cost : tie.Need-cast-cost Inv-loop μ-loop
 cast-cost c = search needs
 
--- src/table.rt:68:9
 mul-cost-3 : tie.Need-mul-cost-3 Inv-loop μ-loop
 mul-cost-3 c = omega (arith, c .before .before .pre .2 (c .before .loop .w) (c .loop-test .taken), c .before .before .good)
 
--- src/table.rt:68:9
 slice-write-cost : tie.Need-slice-write-cost Inv-loop μ-loop
 slice-write-cost c = omega (arith, c .before .before .pre .2 (c .before .loop .w) (c .loop-test .taken))
 
--- src/table.rt:69:9
 add-w : tie.Need-add-w Inv-loop μ-loop
 add-w c = search needs
 
--- src/table.rt:67:5
 loop-less : tie.Need-loop-less Inv-loop μ-loop
 loop-less c = search needs
 
--- src/table.rt:67:5
 loop-again : tie.Need-loop-again Inv-loop μ-loop
 loop-again c =
     let l = c .before .loop in
@@ -71,11 +58,9 @@ loop-again c =
           (told .each (l .w) (c .loop-test .taken)) (l .inv .2 first told apart),
     )
 
--- src/table.rt:62:1
 same-length : tie.Need-same-length Inv-loop μ-loop
 same-length c = search needs
 
--- src/table.rt:62:1
 returns : tie.Need-returns Inv-loop μ-loop
 returns c =
     let l = c .before .loop in
