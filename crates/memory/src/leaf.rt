@@ -96,7 +96,7 @@ fn improves(path: &[u16], kept: &[u16], count: usize, spent: u32, t: Tally) -> b
         return true;
     }
     if spent < t.limit {
-        return true;
+        return true; // it is cheaper
     }
     if t.limit < spent {
         return false;
