@@ -8,7 +8,6 @@ use native.Mathlib.Omega.{arith}
 use borrow.Author.Tests.{lt-ltb, le-ltb, le-leb, lt-leb, eq-eqb, ne-eqb}
 use lib.Dec.{ltb, leb, eqb}
 use lib.ListN.{take, drop}
-use Rattle.bits.specs.Choice.{pick}
 use Rattle.bits.proofs.Truth.{and-off-left, and-off-right, or-left, or-right, or-off, pick-true, pick-false}
 use Rattle.repair.specs.Better.{smaller}
 use Rattle.memory.specs.declared.Tally.{Tally}

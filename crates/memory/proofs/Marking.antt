@@ -1,9 +1,9 @@
 -- The table of costs: places marked and given back one by one, and the place and the number of a pair. Assumes nothing.
 use mathlib.Core.Path.{_≡_, refl, sym, ap, _∙_}
 use mathlib.Core.Logic.{_⊎_, inl, inr, _≢_}
-use mathlib.Core.Bool.{Bool, true, false, _||_}
+use mathlib.Core.Bool.{true, false}
 use mathlib.Core.List.{List, [], _∷_}
-use Prim.Native.Nat.{ℕ, zero, suc, _+_, _*_, _/_, _%_, _≤_, _<_}
+use Prim.Native.Nat.{ℕ, zero, suc, _+_, _*_, _/_, _≤_, _<_}
 use native.Mathlib.Nat.{mul-le-mul}
 use native.Mathlib.Omega.{arith}
 use native.Mathlib.Numerals.{add-one}
@@ -13,7 +13,7 @@ use lib.Seq.{drop-cons, getD-set-same, getD-set-other, ext-getD}
 use Rattle.bits.proofs.Truth.{never, or-off, equal}
 use Rattle.repair.specs.Pair.{member}
 use Rattle.repair.proofs.Sets.{member-here, member-there}
-use Rattle.memory.specs.Table.{Olds, Apart}
+use Rattle.memory.specs.Table.{Apart}
 
 -- the row of a place times n is small
 pub row-small : (n p : ℕ) → n ≤ 128 → p < 16384 → p / 128 * n ≤ 16256

@@ -1,6 +1,6 @@
 -- What a node does is what the tree's run does there: stopped, a repair found, the node left, or its ways tried.
 -- Assumes nothing.
-use mathlib.Core.Path.{_≡_, refl, sym, ap, _∙_, subst, subst⁻¹}
+use mathlib.Core.Path.{_≡_, sym, ap, _∙_, subst, subst⁻¹}
 use mathlib.Core.Bool.{Bool, true, false, _&&_}
 use mathlib.Core.List.{List, map}
 use mathlib.Core.Option.{Option}
@@ -8,14 +8,14 @@ use Prim.Native.Nat.{ℕ, zero, suc, _+_, _≤_, _<_}
 use native.Mathlib.Omega.{arith}
 use borrow.Author.Tests.{le-leb, lt-leb}
 use lib.Dec.{leb, ltb}
-use lib.ListN.{length, take, length-take}
+use lib.ListN.{length, take}
 use lib.Seq.{length-take-le}
 use Rattle.graph.specs.declared.Quad.{Quad}
 use Rattle.graph.specs.declared.First.{First}
 use Rattle.graph.specs.declared.First.the-variants.{At, Clear}
 use Rattle.graph.specs.Graph.{wordEdge}
 use Rattle.graph.specs.Quad.{quads, first}
-use Rattle.graph.proofs.Quads.{Named, listed-named, first-listed}
+use Rattle.graph.proofs.Quads.{listed-named, first-listed}
 use Rattle.walk.specs.Problem as problem
 use Rattle.walk.specs.Walk.{entered, found}
 use Rattle.walk.specs.Best.{bestOf, keepBetter, limitOf}

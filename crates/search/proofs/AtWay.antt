@@ -1,15 +1,15 @@
 -- What is done with one pair is what the tree's run does with it: passed over, or entered. Assumes nothing.
-use mathlib.Core.Path.{_≡_, refl, sym, ap, ap₂, _∙_, subst⁻¹}
+use mathlib.Core.Path.{_≡_, sym, ap, ap₂, _∙_, subst⁻¹}
 use mathlib.Core.Logic.{_⊎_, inl, inr}
 use mathlib.Core.Bool.{Bool, true, false, _&&_}
 use mathlib.Core.List.{List}
 use mathlib.Core.Option.{Option}
-use Prim.Native.Nat.{ℕ, suc, _+_, _≤_, _<_}
+use Prim.Native.Nat.{ℕ, _+_, _≤_, _<_}
 use native.Mathlib.Omega.{arith}
 use borrow.Author.Tests.{ltb-true, leb-true, le-leb}
 use lib.Dec.{leb, ltb}
 use lib.ListN.{length, getD}
-use Rattle.bits.proofs.Truth.{which, and-left, and-right, and-in, and-off-left, and-off-right}
+use Rattle.bits.proofs.Truth.{which, and-left, and-right, and-off-left}
 use Rattle.graph.specs.Price.{fixed}
 use Rattle.walk.specs.Problem as problem
 use Rattle.walk.specs.Walk.{opens}

@@ -1,16 +1,15 @@
 -- The ways of a node one after the other: after each, what is left of the tree's run goes on from the outcome so far, at
 -- the node with the pairs so far marked. Assumes nothing.
-use mathlib.Core.Path.{_≡_, refl, sym, ap, ap₂, _∙_, subst⁻¹}
+use mathlib.Core.Path.{_≡_, refl, sym, ap, _∙_, subst⁻¹}
 use mathlib.Core.Bool.{Bool}
-use mathlib.Core.List.{List, [], _∷_, map}
+use mathlib.Core.List.{List, map}
 use mathlib.Core.Option.{Option}
-use Prim.Native.Nat.{ℕ, suc, _+_, _*_, _≤_, _<_}
+use Prim.Native.Nat.{ℕ, suc, _+_, _≤_, _<_}
 use native.Mathlib.Numerals.{add-one}
 use native.Mathlib.Omega.{arith}
-use lib.ListN.{length, getD, take, drop, set, drop-of-length-le}
+use lib.ListN.{length, getD, drop, set, drop-of-length-le}
 use lib.Seq.{drop-cons}
 use Rattle.graph.specs.Price.{fixed}
-use Rattle.graph.specs.Graph.{wordEdge}
 use Rattle.walk.specs.Problem as problem
 use Rattle.walk.specs.Best.{bestOf}
 use Rattle.walk.specs.Run.{Outcome, whole, next}

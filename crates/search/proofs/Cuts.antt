@@ -1,23 +1,15 @@
 -- Whether an engine leaves a node, read from the table: the packing over the table's costs is the node's. Assumes nothing.
 use mathlib.Core.Path.{_≡_, refl, sym, ap, ap₂, _∙_}
-use mathlib.Core.Logic.{_⊎_, inl, inr}
 use mathlib.Core.Bool.{Bool, true, false, _&&_}
-use mathlib.Core.List.{List, [], _∷_}
-use Prim.Native.Nat.{ℕ, _+_, _*_, _<_}
-use borrow.Author.Tests.{ltb-true, lt-ltb}
+use mathlib.Core.List.{List}
+use Prim.Native.Nat.{ℕ, _+_}
 use lib.Dec.{ltb}
-use Rattle.bits.proofs.Truth.{and-in}
-use Rattle.graph.specs.declared.Quad.{Quad}
 use Rattle.graph.specs.Graph.{wordEdge}
 use Rattle.graph.specs.Quad.{quads}
-use Rattle.graph.proofs.Quads.{Named, listed-named}
 use Rattle.walk.specs.Walk.{plain}
-use Rattle.repair.specs.Pair.{pairOf, member, all}
 use Rattle.repair.specs.Better.{price}
-use Rattle.repair.specs.Packing.{pairsOf, packing}
-use Rattle.repair.specs.Tree.{Node, present, free, tree, pruned, engine}
-use Rattle.repair.proofs.Sets.{all-at}
-use Rattle.repair.proofs.Numbers.{pair-below}
+use Rattle.repair.specs.Packing.{packing}
+use Rattle.repair.specs.Tree.{Node, present, free, pruned, engine}
 use Rattle.bound.specs.Table.{tollAt, freeAt}
 use Rattle.search.specs.Memory.{At}
 use Rattle.bound.proofs.Alike.{packing-agrees}

@@ -1,10 +1,10 @@
 -- An engine's promise determines its answer and what the lent list holds afterwards: two that it allows for the same input
 -- are equal. The refusal decides first, then the size of the tree, then the one best repair. Assumes nothing.
-use mathlib.Core.Path.{_≡_, refl, sym, ap, ap₂, _∙_, subst}
+use mathlib.Core.Path.{_≡_, refl, sym, ap, _∙_}
 use mathlib.Core.Bool.{Bool, true, false}
 use mathlib.Core.List.{List, _++_}
 use mathlib.Core.Option.{Option, none, some}
-use Prim.Native.Nat.{ℕ, _≤_, _<_}
+use Prim.Native.Nat.{ℕ}
 use native.Mathlib.Omega.{arith}
 use lib.ListN.{length, drop}
 use Rattle.graph.specs.declared.Finding.{Finding}
@@ -20,7 +20,7 @@ use Rattle.graph.specs.Graph.{edge}
 use Rattle.graph.specs.Refusal.{firstOf}
 use Rattle.search.specs.declared.Answer.{Answer}
 use Rattle.search.specs.declared.Answer.the-variants.{Refused, Stopped, Nothing, Repaired}
-use Rattle.search.specs.Answer.{checks, refusal, nodes, Over, None, Best, Meant, Promise}
+use Rattle.search.specs.Answer.{checks, refusal, Over, None, Best, Meant, Promise}
 
 -- an answer with the list it leaves
 abbrev Equal : (r s : Answer) (a b : List ℕ) → Type 0

@@ -1,10 +1,10 @@
 -- What the tally at the end means: the answer, the steps and the list that it gives are the promised ones. Assumes nothing.
-use mathlib.Core.Path.{_≡_, refl, sym, ap, ap₂, _∙_, subst, subst⁻¹}
+use mathlib.Core.Path.{_≡_, refl, sym, ap, ap₂, _∙_, subst}
 use mathlib.Core.Logic.{_⊎_, inl, inr}
 use mathlib.Core.Bool.{Bool, true, false}
-use mathlib.Core.List.{List, [], _∷_, _++_}
+use mathlib.Core.List.{List, _++_}
 use mathlib.Core.Option.{Option, none, some}
-use Prim.Native.Nat.{ℕ, suc, _+_, _*_, _-_, _≤_, _<_}
+use Prim.Native.Nat.{ℕ, _+_, _-_, _≤_, _<_}
 use native.Mathlib.Omega.{arith}
 use borrow.Author.Tests.{lt-ltb, le-ltb, eq-eqb, ne-eqb}
 use lib.Dec.{ltb, eqb}
@@ -16,8 +16,6 @@ use Rattle.graph.specs.Refusal.{firstOf}
 use Rattle.graph.specs.Graph.{IsGraph, edge}
 use Rattle.walk.specs.Problem as problem
 use Rattle.walk.specs.Best.{IsBest, limitOf}
-use Rattle.walk.specs.Run.{stopped, whole}
-use Rattle.repair.specs.Better.{price}
 use Rattle.repair.specs.Repair.{Repair, tollOf}
 use Rattle.repair.specs.Tree.{order, walked, searched}
 use Rattle.repair.proofs.Instance.{Positive}

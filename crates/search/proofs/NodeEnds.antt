@@ -1,5 +1,5 @@
 -- How a node ends: stopped, left, with a repair found, or with its ways tried; what it leaves in each case. Assumes nothing.
-use mathlib.Core.Path.{_≡_, refl, sym, ap, _∙_, subst⁻¹}
+use mathlib.Core.Path.{_≡_, refl, subst⁻¹}
 use mathlib.Core.Bool.{Bool, true, false, _&&_}
 use mathlib.Core.List.{List}
 use Prim.Native.Nat.{ℕ, suc, _+_, _≤_, _<_}
@@ -15,8 +15,8 @@ use Rattle.graph.proofs.Quads.{Named, listed-named, first-listed}
 use Rattle.repair.specs.Packing.{pairsOf, packing}
 use Rattle.memory.specs.declared.Tally.{Tally}
 use Rattle.bound.specs.Table.{tollAt, freeAt}
-use Rattle.memory.specs.Tally.{budget, improves, Entered, Kept}
-use Rattle.search.specs.Memory.{pairs, Safe, Sound}
+use Rattle.memory.specs.Tally.{improves, Entered, Kept}
+use Rattle.search.specs.Memory.{Sound}
 use Rattle.search.specs.Steps.{Ready, Back, Six, NodeLeft, WaysLeft}
 use Rattle.search.proofs.Safety.{pairs-small}
 use Rattle.search.proofs.Placing.{places-six}

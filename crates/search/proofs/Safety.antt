@@ -1,19 +1,18 @@
 -- What every node's memory is stays so: a pair marked, a pair entered, and other lists of the same lengths. Assumes nothing.
-use mathlib.Core.Path.{_≡_, refl, sym, ap, _∙_}
+use mathlib.Core.Path.{_≡_, ap, _∙_}
 use mathlib.Core.Logic.{_⊎_, inl, inr, _≢_}
-use mathlib.Core.Bool.{Bool, true, false}
+use mathlib.Core.Bool.{true}
 use mathlib.Core.List.{List}
-use Prim.Native.Nat.{ℕ, suc, _+_, _*_, _-_, _/_, _%_, _≤_, _<_}
+use Prim.Native.Nat.{ℕ, _+_, _*_, _-_, _/_, _%_, _≤_, _<_}
 use native.Mathlib.Nat.{mul-le-mul}
 use native.Mathlib.Omega.{arith}
-use borrow.Author.Tests.{ltb-true, ltb-false, lt-ltb, le-ltb}
-use lib.Dec.{ltb}
+use borrow.Author.Tests.{ltb-true, lt-ltb}
 use lib.ListN.{length, getD, set, length-set}
 use lib.Seq.{getD-set-same, getD-set-other}
 use Rattle.bits.specs.Choice.{count}
-use Rattle.bits.proofs.Truth.{equal, fails}
+use Rattle.bits.proofs.Truth.{equal}
 use Rattle.graph.specs.Price.{fixed}
-use Rattle.graph.specs.Graph.{IsGraph, wordEdge, flipped}
+use Rattle.graph.specs.Graph.{wordEdge}
 use Rattle.graph.specs.Rows.{Toggled}
 use Rattle.graph.proofs.Flipping.{flipped-graph}
 use Rattle.repair.proofs.Counts.{count-fewer, count-lost}

@@ -1,17 +1,17 @@
 -- The memory at the start stands for the root: the words of the graph, the table of the prices, and empty lists.
 -- Assumes nothing.
-use mathlib.Core.Path.{_≡_, refl, sym, ap, ap₂, _∙_, fun-ext, subst}
+use mathlib.Core.Path.{_≡_, refl, sym, _∙_, fun-ext}
 use mathlib.Core.Logic.{_⊎_, inl, inr}
-use mathlib.Core.Bool.{Bool, true, false, not, _&&_}
+use mathlib.Core.Bool.{Bool, true, false, _&&_}
 use mathlib.Core.List.{List, []}
-use Prim.Native.Nat.{ℕ, zero, suc, _+_, _*_, _-_, _/_, _%_, _≤_, _<_}
-use native.Mathlib.Nat.{div-add-mod', div-lt-iff-lt-mul, mod-lt, mul-sub, mul-one}
+use Prim.Native.Nat.{ℕ, suc, _+_, _*_, _-_, _/_, _%_, _≤_, _<_}
+use native.Mathlib.Nat.{div-lt-iff-lt-mul, mod-lt, mul-sub, mul-one}
 use native.Mathlib.Omega.{arith}
-use borrow.Author.Tests.{ltb-true, lt-ltb, le-ltb, eqb-true, not-true}
-use lib.Dec.{ltb, eqb}
-use lib.ListN.{length, getD, take}
-use Rattle.bits.specs.Choice.{pick, count}
-use Rattle.bits.proofs.Truth.{never, which, and-in, and-left, and-right, and-on, and-off-left, and-off-right, not-in, not-off, pick-true, pick-false}
+use borrow.Author.Tests.{ltb-true, lt-ltb}
+use lib.Dec.{ltb}
+use lib.ListN.{length, getD}
+use Rattle.bits.specs.Choice.{pick}
+use Rattle.bits.proofs.Truth.{which, and-in, and-left, and-right, and-on, pick-false}
 use Rattle.bits.proofs.Counting.{count-mono}
 use Rattle.graph.specs.declared.Finding.the-variants.{Fine}
 use Rattle.graph.specs.Price.{fixed, priceEntries}
@@ -34,8 +34,7 @@ use Rattle.bound.specs.Costs.{costAt, Costs}
 use Rattle.bound.proofs.Alike.{toll-made, free-made}
 use Rattle.memory.specs.Table.{Place}
 use Rattle.search.specs.Memory.{openPairs}
-use Rattle.memory.specs.Tally.{budget}
-use Rattle.search.specs.Memory.{pairs, Safe, Sound, At, Same, Follows}
+use Rattle.search.specs.Memory.{pairs, At, Same, Follows}
 use Rattle.search.specs.Steps.{Ready, NodeLeft}
 use Rattle.search.specs.Ends.{Engaged}
 use Rattle.search.proofs.Placing.{index}

@@ -1,17 +1,17 @@
 -- The memory stands for a node, and goes on standing for one: with a pair marked, and with a pair entered. Assumes nothing.
-use mathlib.Core.Path.{_≡_, refl, sym, ap, ap₂, _∙_}
+use mathlib.Core.Path.{_≡_, sym, ap, ap₂, _∙_}
 use mathlib.Core.Logic.{_⊎_, inl, inr, _≢_}
-use mathlib.Core.Bool.{Bool, true, false, _||_}
+use mathlib.Core.Bool.{Bool, true, false}
 use mathlib.Core.List.{List, _∷_}
-use Prim.Native.Nat.{ℕ, _+_, _*_, _/_, _%_, _≤_, _<_}
+use Prim.Native.Nat.{ℕ, _+_, _/_, _%_, _≤_, _<_}
 use native.Mathlib.Omega.{arith}
-use borrow.Author.Tests.{ltb-true, le-ltb, ne-eqb, eqb-true}
+use borrow.Author.Tests.{le-ltb, ne-eqb, eqb-true}
 use lib.Dec.{ltb, eqb}
-use lib.ListN.{length, getD, take, set}
+use lib.ListN.{length, getD, set}
 use lib.Seq.{getD-set-same, getD-set-other}
 use Rattle.bits.proofs.Truth.{never, fails, same, equal, or-off, or-out}
 use Rattle.graph.specs.Price.{fixed}
-use Rattle.graph.specs.Graph.{wordEdge, flipped}
+use Rattle.graph.specs.Graph.{flipped}
 use Rattle.graph.specs.Rows.{Toggled}
 use Rattle.repair.specs.Pair.{isPair, member, pairOf}
 use Rattle.repair.specs.Better.{price}

@@ -1,8 +1,8 @@
 -- How one way ends: passed over, or entered and left again; what it leaves in each case. Assumes nothing.
-use mathlib.Core.Path.{_≡_, refl, sym, ap, _∙_, subst, subst⁻¹}
-use mathlib.Core.Bool.{Bool, true, false, _&&_}
+use mathlib.Core.Path.{_≡_, refl, sym, ap, _∙_, subst}
+use mathlib.Core.Bool.{Bool, true, false}
 use mathlib.Core.List.{List}
-use Prim.Native.Nat.{ℕ, suc, _+_, _*_, _/_, _%_, _≤_, _<_}
+use Prim.Native.Nat.{ℕ, _+_, _/_, _%_, _≤_, _<_}
 use native.Mathlib.Omega.{arith}
 use borrow.Author.Tests.{lt-ltb}
 use lib.ListN.{length, getD, take, set}
@@ -15,7 +15,7 @@ use Rattle.memory.specs.declared.Tally.{Tally}
 use Rattle.memory.specs.Table.{Place, numberAt, Marked}
 use Rattle.search.specs.Memory.{openPairs}
 use Rattle.memory.specs.Trail.{Put, Closed}
-use Rattle.search.specs.Memory.{At, Safe, Sound}
+use Rattle.search.specs.Memory.{At}
 use Rattle.search.specs.Steps.{Ready, Back, NodeLeft, WayLeft}
 use Rattle.search.proofs.Safety.{safe-enter, safe-room, open-falls}
 use Rattle.search.proofs.States.{at-free, at-add}

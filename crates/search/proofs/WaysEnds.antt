@@ -1,20 +1,20 @@
 -- The loop over the ways of a node: what holds after w of them, and what is left when the marks are gone. Assumes nothing.
-use mathlib.Core.Path.{_≡_, refl, sym, ap, _∙_, subst⁻¹}
+use mathlib.Core.Path.{_≡_, refl, _∙_}
 use mathlib.Core.Bool.{Bool, true}
 use mathlib.Core.List.{List}
 use mathlib.Core.Option.{Option}
-use Prim.Native.Nat.{ℕ, suc, _+_, _≤_, _<_}
+use Prim.Native.Nat.{ℕ, _+_, _≤_, _<_}
 use native.Mathlib.Omega.{arith}
-use lib.ListN.{length, getD, take, set}
+use lib.ListN.{length, getD, take}
 use Rattle.graph.specs.Price.{fixed}
 use Rattle.walk.specs.Problem as problem
 use Rattle.repair.specs.Pair.{member}
 use Rattle.repair.specs.Tree.{Node}
 use Rattle.memory.specs.declared.Tally.{Tally}
-use Rattle.memory.specs.Table.{Olds, Apart}
+use Rattle.memory.specs.Table.{Apart}
 use Rattle.search.specs.Memory.{openPairs}
-use Rattle.search.specs.Memory.{Safe, Sound, At, Same}
-use Rattle.search.specs.Steps.{left, Ready, Six, Back, WayLeft, WaysLeft}
+use Rattle.search.specs.Memory.{At, Same}
+use Rattle.search.specs.Steps.{left, Ready, Six, WayLeft, WaysLeft}
 use Rattle.memory.proofs.Marking.{entry-member, apart-same, apart-set}
 use Rattle.search.proofs.Safety.{safe-lists, safe-mark, open-less}
 use Rattle.search.proofs.AtWays.{Reached, reached-none, reached-more, reached-all}

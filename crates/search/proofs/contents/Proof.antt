@@ -1,5 +1,6 @@
-use mathlib.Core.Path.{_≡_, refl, sym, ap, _∙_}
-use native.Mathlib.Omega.{arith}
+-- `search::contents` meets its contract: the first finding of the graph's entries, the prices', and the limits.
+-- Assumes nothing.
+use mathlib.Core.Path.{_∙_}
 use Rattle.search.proofs.Refusing.{first-found, first-passed}
 use borrow.Author.Needs.{needs}
 use Rattle.search.proofs.contents.Statement.{statement}

@@ -1,5 +1,6 @@
-use mathlib.Core.Path.{_≡_, refl, sym, ap, _∙_}
-use native.Mathlib.Omega.{arith}
+-- `search::either` meets its contract: what is refused, or what the engine answers over the rows of the bytes.
+-- Assumes nothing.
+use mathlib.Core.Path.{sym, _∙_}
 use Rattle.graph.specs.Graph.{rowEdge}
 use Rattle.graph.proofs.Reading.{entries-graph}
 use Rattle.search.proofs.Refusing.{passed}

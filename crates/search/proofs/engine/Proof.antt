@@ -1,4 +1,6 @@
-use mathlib.Core.Path.{_≡_, refl, sym, ap, _∙_}
+-- `search::engine` meets its contract: the memory at the start stands for the root, and the tally at the end means the
+-- answer. Assumes nothing.
+use mathlib.Core.Path.{refl}
 use native.Mathlib.Omega.{arith}
 use Rattle.graph.specs.Graph.{rowEdge}
 use Rattle.repair.specs.Repair.{tollOf}

@@ -1,4 +1,5 @@
-use mathlib.Core.Path.{_≡_, refl, sym, ap, _∙_}
+-- `search::pairs_of` meets its contract: n(n-1)/2 fits. Assumes nothing.
+use mathlib.Core.Path.{refl, sym, ap}
 use native.Mathlib.Omega.{arith}
 use Prim.Native.Nat.{_*_, _-_, _/_}
 use native.Mathlib.Nat.{mul-le-mul}

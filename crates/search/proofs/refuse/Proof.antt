@@ -1,4 +1,5 @@
-use mathlib.Core.Path.{_≡_, refl, sym, ap, _∙_}
+-- `search::refuse` meets its contract: 1, then 2 for the graph and the prices, then what their entries say. Assumes nothing.
+use mathlib.Core.Path.{_∙_}
 use native.Mathlib.Omega.{arith}
 use Rattle.search.proofs.Refusing.{square-small, many-refused, graph-refused, prices-refused, sizes-passed}
 use borrow.Author.Needs.{needs}

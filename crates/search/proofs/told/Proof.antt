@@ -1,5 +1,4 @@
-use mathlib.Core.Path.{_≡_, refl, sym, ap, _∙_}
-use native.Mathlib.Omega.{arith}
+-- `search::told` meets its contract: stopped, nothing kept, or the repair that is kept. Assumes nothing.
 use Rattle.search.proofs.Ending.{told-stopped, told-nothing, told-repaired}
 use borrow.Author.Needs.{needs}
 use Rattle.search.proofs.told.Statement.{statement}

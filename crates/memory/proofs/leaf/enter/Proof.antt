@@ -1,5 +1,4 @@
-use mathlib.Core.Path.{_≡_, refl, sym, ap, _∙_}
-use native.Mathlib.Omega.{arith}
+-- `memory::leaf::enter` meets its contract: the pair is toggled and its number put into the path. Assumes nothing.
 use borrow.Author.Needs.{needs}
 use Rattle.memory.proofs.leaf.enter.Statement.{statement}
 use Rattle.memory.proofs.leaf.enter.Tie as tie

@@ -1,5 +1,5 @@
-use mathlib.Core.Path.{_≡_, refl, sym, ap, _∙_}
-use native.Mathlib.Omega.{arith}
+-- `memory::leaf::keep` meets its contract: the kept repair stays, or the path is copied over it. Assumes nothing.
+use mathlib.Core.Path.{sym, _∙_}
 use lib.ListN.{take}
 use Rattle.memory.proofs.Choosing.{kept-not, kept-new}
 use borrow.Author.Tests.{not-true, not-false}

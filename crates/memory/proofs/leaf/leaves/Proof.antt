@@ -1,5 +1,4 @@
-use mathlib.Core.Path.{_≡_, refl, sym, ap, _∙_}
-use native.Mathlib.Omega.{arith}
+-- `memory::leaf::leaves` meets its contract: the bound's own test, where the engine prunes. Assumes nothing.
 use borrow.Author.Needs.{needs}
 use Rattle.memory.proofs.leaf.leaves.Statement.{statement}
 use Rattle.memory.proofs.leaf.leaves.Tie as tie

@@ -1,4 +1,4 @@
-use mathlib.Core.Path.{_≡_, refl, sym, ap, _∙_}
+-- `memory::leaf::opens` meets its contract: stopped, fixed or marked, or the prices decide. Assumes nothing.
 use native.Mathlib.Omega.{arith}
 use Rattle.memory.proofs.Choosing.{enters-stopped, enters-fixed, enters-open}
 use borrow.Author.Needs.{needs}

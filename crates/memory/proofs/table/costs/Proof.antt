@@ -1,7 +1,8 @@
-use mathlib.Core.Path.{_≡_, refl, sym, ap, _∙_}
-use Prim.Native.Nat.{_+_, _-_, _≤_, _<_}
+-- `memory::table::costs` meets its contract. The loop's invariant: the first w places' costs are told. Assumes nothing.
+use mathlib.Core.Path.{_≡_}
+use Prim.Native.Nat.{_-_, _≤_}
 use native.Mathlib.Omega.{arith}
-use lib.ListN.{length, getD, take, drop, length-set}
+use lib.ListN.{length, length-set}
 use Rattle.memory.proofs.Marking.{Told, told-next}
 use borrow.Author.Needs.{needs}
 use Rattle.memory.proofs.table.costs.Statement.{statement}

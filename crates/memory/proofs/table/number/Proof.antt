@@ -1,10 +1,9 @@
-use mathlib.Core.Path.{_≡_, refl, sym, ap, _∙_}
-use Prim.Native.Nat.{_+_, _-_, _≤_, _<_}
+-- `memory::table::number` meets its contract: the row times n fits. Assumes nothing.
+use mathlib.Core.Path.{refl}
+use Prim.Native.Nat.{_-_}
 use native.Mathlib.Omega.{arith}
-use lib.ListN.{length, getD, take, drop, length-set}
 use Rattle.memory.proofs.Marking.{row-small}
 use Rattle.memory.specs.Table.{numberAt}
-use borrow.Author.Needs.{needs}
 use Rattle.memory.proofs.table.number.Statement.{statement}
 use Rattle.memory.proofs.table.number.Tie as tie
 

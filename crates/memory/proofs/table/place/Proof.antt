@@ -1,7 +1,6 @@
-use mathlib.Core.Path.{_≡_, refl, sym, ap, _∙_}
-use Prim.Native.Nat.{_+_, _-_, _≤_, _<_}
+-- `memory::table::place` meets its contract: row of the smaller vertex, column of the greater. Assumes nothing.
+use Prim.Native.Nat.{_-_}
 use native.Mathlib.Omega.{arith}
-use lib.ListN.{length, getD, take, drop, length-set}
 use Rattle.repair.specs.Pair.{pairOf}
 use borrow.Author.Needs.{needs}
 use Rattle.memory.proofs.table.place.Statement.{statement}

@@ -1,7 +1,5 @@
-use mathlib.Core.Path.{_≡_, refl, sym, ap, _∙_}
-use Prim.Native.Nat.{_+_, _-_, _≤_, _<_}
-use native.Mathlib.Omega.{arith}
-use lib.ListN.{length, getD, take, drop, length-set}
+-- `memory::table::places` meets its contract: six places of pairs. Assumes nothing.
+use Prim.Native.Nat.{_-_}
 use Rattle.repair.specs.Packing.{pairsOf}
 use borrow.Author.Needs.{needs}
 use Rattle.memory.proofs.table.places.Statement.{statement}

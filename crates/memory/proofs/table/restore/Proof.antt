@@ -1,7 +1,9 @@
-use mathlib.Core.Path.{_≡_, refl, sym, ap, _∙_}
-use Prim.Native.Nat.{ℕ, _+_, _-_, _≤_, _<_}
+-- `memory::table::restore` meets its contract. The loop's invariant: the table differs from the first one at the places from
+-- w on at most. Assumes nothing.
+use mathlib.Core.Path.{_≡_}
+use Prim.Native.Nat.{ℕ, _-_, _≤_}
 use native.Mathlib.Omega.{arith}
-use lib.ListN.{length, getD, take, drop, length-set, drop-of-length-le}
+use lib.ListN.{length, getD, drop, length-set, drop-of-length-le}
 use mathlib.Core.List.{List}
 use Rattle.memory.specs.Table.{Olds, Apart}
 use Rattle.memory.proofs.Marking.{apart-back, apart-none}

@@ -1,9 +1,10 @@
-use mathlib.Core.Path.{_≡_, refl, sym, ap, _∙_}
+-- The procedure that calls itself at each node meets its contract: `node`, `ways` and `way`. Each ends in a lemma over plain
+-- values, in NodeEnds, WaysEnds and WayEnds. The falling number is the count of free pairs, three to a node. Assumes nothing.
+use mathlib.Core.Path.{sym, _∙_}
 use Prim.Native.Nat.{ℕ, _+_, _*_, _-_, _<_}
 use native.Mathlib.Omega.{arith}
 use borrow.Author.Needs.{needs}
 use borrow.Author.Tests.{not-true, not-false}
-use lib.ListN.{length}
 use Rattle.search.specs.Memory.{openPairs}
 use Rattle.search.proofs.NodeEnds.{
   quad-inside,
