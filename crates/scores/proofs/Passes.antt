@@ -8,15 +8,16 @@ use native.Mathlib.Omega.{arith}
 use lib.ListN.{length, getD, drop, List·getD-append}
 use lib.IntN.{ℤ}
 use lib.Dec.{eqb}
-use borrow.Author.Tests.{lt-ltb, eq-eqb, ne-eqb, eqb-true, eqb-false}
+use borrow.Author.Tests.{eq-eqb, eqb-false, eqb-true, le-leb, ne-eqb}
 use Rattle.bits.specs.Choice.{pick}
 use Rattle.bits.proofs.Truth.{which, equal, and-in, or-left, pick-true, pick-false}
 use Rattle.graph.specs.declared.Finding.the-variants.{Fine, Fault}
 use Rattle.graph.specs.Check.{entry, entries}
+use Rattle.graph.specs.Price as rule
 use Rattle.graph.proofs.CheckLaws.{inside}
 use Rattle.graph.proofs.Grid.{fine-grid}
 use Rattle.graph.proofs.Reading.{small-good, entry-fine, fine-entries}
-use Rattle.scores.specs.Scale.{onScale, edgeOf, priceOf, scoreOf, scoresOff, edgeByte, priceEntry, square, byRule, priceFault, priceFaults}
+use Rattle.scores.specs.Scale.{onScale, edgeOf, priceOf, scoreOf, scoresOff, edgeByte, priceEntry, square}
 use Rattle.scores.specs.Drawing.{checks, Promise}
 use Rattle.scores.proofs.ScoreFaults.{score-mirror, scores-on}
 use Rattle.scores.proofs.Drawings.{promised}
@@ -104,11 +105,11 @@ module _ (n : ℕ) (t : ℤ) (scores : List ℤ) where
     pub graph-passes : entries n graph′ ≡ Fine
     graph-passes = fine-entries n graph′ edge-fine
 
-    price-fine : (i j : ℕ) → i < n → j < n → priceFault n prices′ i j ≡ Fine
-    unfolding priceFault byRule
+    price-fine : (i j : ℕ) → i < n → j < n → rule.priceEntry n prices′ i j ≡ Fine
+    unfolding rule.priceEntry rule.priced
     price-fine i j hi hj = go (which (eqb i j))
       where
-        go : (eqb i j ≡ true) ⊎ (eqb i j ≡ false) → priceFault n prices′ i j ≡ Fine
+        go : (eqb i j ≡ true) ⊎ (eqb i j ≡ false) → rule.priceEntry n prices′ i j ≡ Fine
         go (inl p) =
             let e = eqb-true i j p in
             let zero-price : getD prices′ (i * n + j) 0 ≡ 0 = price-at i j hi hj ∙ sym (price-diagonal n t scores i j e) in
@@ -119,12 +120,10 @@ module _ (n : ℕ) (t : ℤ) (scores : List ℤ) where
             let apart : i ≢ j = eqb-false i j p in
             let b = prices-free i j apart hi hj in
             let mirror = price-at i j hi hj ∙ price-mirror i j apart ∙ sym (price-at j i hj hi) in
-            let some : 0 < getD prices′ (i * n + j) 0 = omega arith in
-            let most : getD prices′ (i * n + j) 0 < 10001 = omega arith in
-            (pick-true Fine (Fault 6 i j)
-            (and-in (pick-false _ _ p ∙ or-left _ (and-in (lt-ltb _ _ some) (lt-ltb _ _ most))) (eq-eqb _ _ mirror)))
+            pick-true Fine (Fault 6 i j)
+            (and-in (pick-false _ _ p ∙ or-left _ (and-in (le-leb _ _ (b .0)) (le-leb _ _ (b .1)))) (eq-eqb _ _ mirror))
 
     -- the check 6
-    pub prices-pass : priceFaults n prices′ ≡ Fine
-    unfolding priceFaults
-    prices-pass = fine-grid n (priceFault n prices′) price-fine
+    pub prices-pass : rule.priceEntries n prices′ ≡ Fine
+    unfolding rule.priceEntries
+    prices-pass = fine-grid n (rule.priceEntry n prices′) price-fine
