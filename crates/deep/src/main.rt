@@ -35,15 +35,20 @@ fn show(name: &[u8], r: Answer) {
     io::write_all(1, b"\n");
 }
 
+fn distance(i: usize, j: usize) -> usize {
+    if i < j {
+        return j - i;
+    }
+    i - j
+}
+
 // Is {i, j} an edge? All pairs are but those two apart.
 fn joined(i: usize, j: usize) -> u8 {
-    if i == j {
+    let d = distance(i, j);
+    if d == 0 {
         return 0;
     }
-    if i + 2 == j {
-        return 0;
-    }
-    if j + 2 == i {
+    if d == 2 {
         return 0;
     }
     1
