@@ -23,10 +23,11 @@ use Rattle.repair.specs.Pair.{pairOf, isPair, changeable, member, all}
 use Rattle.repair.specs.Repair.{tollOf}
 use Rattle.repair.specs.Packing.{pairsOf, those, share, lowest, hopeless, empty, stuck, packed, packing}
 use Rattle.repair.proofs.Numbers.{pair-is}
+use Rattle.repair.proofs.Tolls.{some-vertex, tolls-within}
 use Rattle.repair.proofs.Sets.{member-here, member-there, all-at, those-keep, those-drop, those-out}
 use Rattle.bound.specs.Table.{tollAt, freeAt}
 use Rattle.bound.specs.Costs.{costAt, Costs}
-use Rattle.bound.proofs.PriceLaws.{cost-pair, prices-small}
+use Rattle.bound.proofs.PriceLaws.{cost-pair}
 
 -- equal on every member
 abbrev Like : {A : Type 0} → (ℕ → A) → (ℕ → A) → List ℕ → Type 0
@@ -131,27 +132,13 @@ module _ (n : ℕ) (few : n ≤ 128) (prices cost : List ℕ) (C : Costs n price
     unfolding isPair
     inside = ltb-true x (n * n) (and-left (ltb x (n * n)) (ltb (x / n) (x % n)) h)
 
-    some : 0 < n
-    some = go (below n 1)
-      where
-        go : (n < 1) ⊎ (1 ≤ n) → 0 < n
-        go (inl l) = let z : n ≡ 0 = omega arith in absurd (let i = inside in let k : n * n ≡ 0 = rw z refl in omega arith)
-        go (inr l) = l
-
     pub toll-made : tollAt n cost x ≡ tollOf prices x
     unfolding tollAt
     toll-made =
-        let high = mod-lt x some in
+        let high = mod-lt x (some-vertex n x inside) in
         let i-in = low in
         C .each (x / n * 128 + x % n) (omega arith) ∙ sym (cost-pair n prices (x / n) (x % n) low high few) ∙
         ap (λ p. getD prices p 0) (div-add-mod' x n)
-
-    small : tollOf prices x ≤ fixed
-    small =
-        let high = mod-lt x some in
-        let i-in = low in
-        omega
-        (arith, ap (λ p. getD prices p 0) (div-add-mod' x n), prices-small n prices ok (x / n) (x % n) (omega arith) high)
 
     pub free-made : freeAt n cost x ≡ changeable n (tollOf prices) x
     unfolding freeAt changeable
@@ -164,8 +151,8 @@ module _ (n : ℕ) (few : n ≤ 128) (prices cost : List ℕ) (C : Costs n price
             le-ltb (tollAt n cost x) fixed (omega (arith, toll-made)) ∙
             sym (and-off-right (isPair n x) (not-off (eq-eqb (tollOf prices x) fixed e)))
         go (inr d) =
-            lt-ltb (tollAt n cost x) fixed (omega (arith, toll-made, small)) ∙
-            sym (and-in h (not-in (ne-eqb (tollOf prices x) fixed d)))
+            let c = and-in h (not-in (ne-eqb (tollOf prices x) fixed d)) in
+            lt-ltb (tollAt n cost x) fixed (omega (arith, toll-made, tolls-within n prices ok x c .1)) ∙ sym c
 
   -- gives the bound of the prices
   pub packing-made :
