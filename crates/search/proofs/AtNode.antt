@@ -23,11 +23,12 @@ use Rattle.walk.specs.Run.{Outcome, stopped, whole}
 use Rattle.repair.specs.Better.{price}
 use Rattle.repair.specs.Packing.{pairsOf, packing}
 use Rattle.repair.specs.Tree.{Node, isClear, waysOf, order, present, tree, engine}
-use Rattle.search.specs.declared.Tally.{Tally}
+use Rattle.memory.specs.declared.Tally.{Tally}
 use Rattle.bound.specs.Table.{tollAt, freeAt}
-use Rattle.search.specs.Table.{numberAt}
+use Rattle.memory.specs.Table.{numberAt}
 use Rattle.search.specs.Memory as memory
-use Rattle.search.specs.Memory.{Entered, Same, Follows, Kept}
+use Rattle.memory.specs.Tally.{Entered, Kept}
+use Rattle.search.specs.Memory.{Same, Follows}
 use Rattle.search.specs.Steps.{runs, left, tries}
 use Rattle.search.proofs.Runs.{run-stop, run-found, run-left, run-tries}
 use Rattle.search.proofs.Placing.{places-numbers}

@@ -18,8 +18,8 @@ use Rattle.walk.specs.Run.{Outcome, stopped, whole, next, runIf}
 use Rattle.repair.specs.Better.{price}
 use Rattle.repair.specs.Tree.{Node, order, free, add, tree}
 use Rattle.repair.proofs.Instance.{count-add}
-use Rattle.search.specs.declared.Tally.{Tally}
-use Rattle.search.specs.Table.{Place, numberAt}
+use Rattle.memory.specs.declared.Tally.{Tally}
+use Rattle.memory.specs.Table.{Place, numberAt}
 use Rattle.search.specs.Memory.{At, Same, Follows}
 use Rattle.search.specs.Steps.{runs, left, tried}
 use Rattle.search.proofs.States.{at-free, at-toll}

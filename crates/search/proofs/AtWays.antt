@@ -16,8 +16,8 @@ use Rattle.walk.specs.Best.{bestOf}
 use Rattle.walk.specs.Run.{Outcome, whole, next}
 use Rattle.repair.specs.Tree.{Node, order, mark, tree}
 use Rattle.repair.proofs.Instance.{count-mark}
-use Rattle.search.specs.declared.Tally.{Tally}
-use Rattle.search.specs.Table.{Place, numberAt}
+use Rattle.memory.specs.declared.Tally.{Tally}
+use Rattle.memory.specs.Table.{Place, numberAt}
 use Rattle.search.specs.Memory.{At, Same, Follows}
 use Rattle.search.specs.Steps.{runs, left, tried, tries, Back, Tried}
 use Rattle.search.proofs.Runs.{tries-more, tries-none}

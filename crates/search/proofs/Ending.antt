@@ -22,7 +22,7 @@ use Rattle.repair.specs.Repair.{Repair, tollOf}
 use Rattle.repair.specs.Tree.{order, walked, searched}
 use Rattle.repair.proofs.Instance.{Positive}
 use Rattle.repair.proofs.Promises.{keeps-best, search-over, search-whole}
-use Rattle.search.specs.declared.Tally.{Tally}
+use Rattle.memory.specs.declared.Tally.{Tally}
 use Rattle.search.specs.declared.Answer.{Answer}
 use Rattle.search.specs.declared.Answer.the-variants.{Refused, Stopped, Nothing, Repaired}
 use Rattle.search.specs.Memory.{Holds, Same, Follows}

@@ -18,8 +18,9 @@ use Rattle.walk.specs.Problem as problem
 use Rattle.walk.specs.Best.{keepBetter, limitOf}
 use Rattle.repair.specs.Better.{smaller, price, better}
 use Rattle.repair.specs.Tree.{order}
-use Rattle.search.specs.declared.Tally.{Tally}
-use Rattle.search.specs.Memory.{Holds, improves, Kept}
+use Rattle.memory.specs.declared.Tally.{Tally}
+use Rattle.memory.specs.Tally.{improves, Kept}
+use Rattle.search.specs.Memory.{Holds}
 
 -- the limit and the list of the tally r are those of what is kept
 pub record Stored (toll : ℕ → ℕ) (k : ℕ) (o : Option (List ℕ)) (r : Tally) (after : List ℕ) : Type 0 where

@@ -1,7 +1,3 @@
-pub mod Gaps
-pub mod Inserting
-pub mod Marking
-pub mod Choosing
 pub mod Placing
 pub mod Runs
 pub mod Safety

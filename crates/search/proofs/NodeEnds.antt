@@ -13,9 +13,10 @@ use Rattle.graph.specs.Graph.{wordEdge}
 use Rattle.graph.specs.Quad.{quads, first}
 use Rattle.graph.proofs.Quads.{Named, listed-named, first-listed}
 use Rattle.repair.specs.Packing.{pairsOf, packing}
-use Rattle.search.specs.declared.Tally.{Tally}
+use Rattle.memory.specs.declared.Tally.{Tally}
 use Rattle.bound.specs.Table.{tollAt, freeAt}
-use Rattle.search.specs.Memory.{pairs, budget, improves, Safe, Sound, Entered, Kept}
+use Rattle.memory.specs.Tally.{budget, improves, Entered, Kept}
+use Rattle.search.specs.Memory.{pairs, Safe, Sound}
 use Rattle.search.specs.Steps.{Ready, Back, Six, NodeLeft, WaysLeft}
 use Rattle.search.proofs.Safety.{pairs-small}
 use Rattle.search.proofs.Placing.{places-six}

@@ -13,7 +13,7 @@ use Rattle.graph.proofs.Quads.{Named}
 use Rattle.repair.specs.Pair.{pairOf, isPair}
 use Rattle.repair.specs.Packing.{pairsOf}
 use Rattle.repair.proofs.Numbers.{pair-low, pair-high, pair-below, pair-is}
-use Rattle.search.specs.Table.{Place, numberAt}
+use Rattle.memory.specs.Table.{Place, numberAt}
 use Rattle.search.specs.Steps.{Six}
 
 -- of the pair number x of n vertices, its place

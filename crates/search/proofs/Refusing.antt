@@ -16,7 +16,8 @@ use Rattle.graph.specs.Refusal.{row, firstOf}
 use Rattle.graph.specs.Check.{tooMany, wrongLength, tooShort, entries}
 use Rattle.graph.specs.Price.{priceEntries}
 use Rattle.graph.proofs.Refusals.{firstOf-next, firstOf-here, firstOf-fine, row-holds, row-passes, row-fine}
-use Rattle.search.specs.Memory.{pairs, budget}
+use Rattle.memory.specs.Tally.{budget}
+use Rattle.search.specs.Memory.{pairs}
 use Rattle.search.specs.Answer.{tooLarge, checks}
 
 -- n x n is small

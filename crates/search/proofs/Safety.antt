@@ -18,8 +18,10 @@ use Rattle.graph.specs.Rows.{Toggled}
 use Rattle.graph.proofs.Flipping.{flipped-graph}
 use Rattle.repair.proofs.Counts.{count-fewer, count-lost}
 use Rattle.bound.specs.Table.{tollAt, freeAt}
-use Rattle.search.specs.Table.{Place, numberAt, openPairs}
-use Rattle.search.specs.Memory.{pairs, budget, Safe}
+use Rattle.memory.specs.Table.{Place, numberAt}
+use Rattle.search.specs.Memory.{openPairs}
+use Rattle.memory.specs.Tally.{budget}
+use Rattle.search.specs.Memory.{pairs, Safe}
 use Rattle.search.proofs.Placing.{index, number-below}
 use Rattle.search.proofs.States.{toll-here, free-here}
 

@@ -28,12 +28,14 @@ use Rattle.repair.proofs.Sets.{member-none}
 use Rattle.repair.proofs.Toggling.{toggled-stays}
 use Rattle.repair.proofs.Pairs.{pairs-counted}
 use Rattle.repair.proofs.Tolls.{some-vertex}
-use Rattle.search.specs.declared.Tally.{Tally}
+use Rattle.memory.specs.declared.Tally.{Tally}
 use Rattle.bound.specs.Table.{tollAt, freeAt}
 use Rattle.bound.specs.Costs.{costAt, Costs}
 use Rattle.bound.proofs.Alike.{toll-made, free-made}
-use Rattle.search.specs.Table.{Place, openPairs}
-use Rattle.search.specs.Memory.{pairs, budget, Safe, Sound, At, Same, Follows}
+use Rattle.memory.specs.Table.{Place}
+use Rattle.search.specs.Memory.{openPairs}
+use Rattle.memory.specs.Tally.{budget}
+use Rattle.search.specs.Memory.{pairs, Safe, Sound, At, Same, Follows}
 use Rattle.search.specs.Steps.{Ready, NodeLeft}
 use Rattle.search.specs.Ends.{Engaged}
 use Rattle.search.proofs.Placing.{index}

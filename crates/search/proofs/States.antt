@@ -23,8 +23,8 @@ use Rattle.repair.proofs.Toggling.{Two, toggled-insert}
 use Rattle.repair.proofs.Nodes.{free-changeable, free-unmarked, free-in, marks-more}
 use Rattle.repair.proofs.Instance.{spent-add}
 use Rattle.bound.specs.Table.{tollAt, freeAt}
-use Rattle.search.specs.Table.{Place, numberAt}
-use Rattle.search.specs.Trail.{Put}
+use Rattle.memory.specs.Table.{Place, numberAt}
+use Rattle.memory.specs.Trail.{Put}
 use Rattle.search.specs.Memory.{At}
 use Rattle.search.proofs.Placing.{index, number-pair, number-index, number-is, index-apart}
 

@@ -11,9 +11,10 @@ use Rattle.graph.specs.Price.{fixed}
 use Rattle.graph.specs.Rows.{Toggled}
 use Rattle.graph.proofs.WordLaws.{toggle-toggle}
 use Rattle.repair.specs.Tree.{Node, add}
-use Rattle.search.specs.declared.Tally.{Tally}
-use Rattle.search.specs.Table.{Place, numberAt, openPairs, Marked}
-use Rattle.search.specs.Trail.{Put, Closed}
+use Rattle.memory.specs.declared.Tally.{Tally}
+use Rattle.memory.specs.Table.{Place, numberAt, Marked}
+use Rattle.search.specs.Memory.{openPairs}
+use Rattle.memory.specs.Trail.{Put, Closed}
 use Rattle.search.specs.Memory.{At, Safe, Sound}
 use Rattle.search.specs.Steps.{Ready, Back, NodeLeft, WayLeft}
 use Rattle.search.proofs.Safety.{safe-enter, safe-room, open-falls}
@@ -65,10 +66,10 @@ module _
       fewer-open = rw (marked .stored) (open-falls n cost p (ready .safe .table) fits (ready .safe .few) place (is .costs))
 
       pub ready-node :
-          (words₁ path₁ : List ℕ) → Toggled (p / 128) (p % 128) words words₁ → length path₁ ≡ length path →
-          Ready n most words₁ cost′ path₁ kept (count + 1) (spent + price) t
-      ready-node words₁ path₁ toggled long =
-          rw (marked .stored, marked .told)
+          (due : ℕ) (words₁ path₁ : List ℕ) → due ≡ spent + price → Toggled (p / 128) (p % 128) words words₁ →
+          length path₁ ≡ length path → Ready n most words₁ cost′ path₁ kept (count + 1) due t
+      ready-node due words₁ path₁ owed toggled long =
+          rw (owed, marked .stored, marked .told)
           (record {
             safe =
                 safe-enter (ready .safe) p words₁ path₁ fits place (is .costs)
@@ -78,10 +79,11 @@ module _
           })
 
       module _
-          (words₁ path₁ words₂ cost₂ path₂ kept₂ words₃ path₃ : List ℕ) (at : ℕ) (r : Tally)
+          (words₁ path₁ words₂ cost₂ path₂ kept₂ words₃ path₃ : List ℕ) (at due : ℕ) (r : Tally)
+          (owed : due ≡ spent + price)
           (toggled : Toggled (p / 128) (p % 128) words words₁)
           (put : Put count (numberAt n p) path path₁ at)
-          (did : NodeLeft n prune most words₁ cost′ path₁ kept (count + 1) (spent + price) t r words₂ cost₂ path₂ kept₂)
+          (did : NodeLeft n prune most words₁ cost′ path₁ kept (count + 1) due t r words₂ cost₂ path₂ kept₂)
           (untoggled : Toggled (p / 128) (p % 128) words₂ words₃)
           (closed : Closed count at path₂ path₃)
         where
@@ -102,10 +104,10 @@ module _
           -- the memory stands for the node below
           there :
               (e : ℕ → ℕ → Bool) (toll : ℕ → ℕ) (s : Node) → At n e toll s words cost path count spent →
-              At n e toll (add s (numberAt n p)) words₁ cost′ path₁ (count + 1) (spent + price)
+              At n e toll (add s (numberAt n p)) words₁ cost′ path₁ (count + 1) due
           there e toll s here =
               let free = at-free here p (ready .safe .few) place inside ∙ lt-ltb (getD cost p 0) fixed (is .costs) in
-              rw (marked .stored, marked .told) (at-add here p (ready .safe .few) place inside words₁ path₁ at free toggled put)
+              rw (owed, marked .stored, marked .told) (at-add here p (ready .safe .few) place inside words₁ path₁ at free toggled put)
 
           pub end-entered : WayLeft n prune most words cost path kept count spent p t r words₃ cost₂ path₃ kept₂
           end-entered =

@@ -10,11 +10,12 @@ use Rattle.graph.specs.Price.{fixed}
 use Rattle.walk.specs.Problem as problem
 use Rattle.repair.specs.Pair.{member}
 use Rattle.repair.specs.Tree.{Node}
-use Rattle.search.specs.declared.Tally.{Tally}
-use Rattle.search.specs.Table.{openPairs, Olds, Apart}
+use Rattle.memory.specs.declared.Tally.{Tally}
+use Rattle.memory.specs.Table.{Olds, Apart}
+use Rattle.search.specs.Memory.{openPairs}
 use Rattle.search.specs.Memory.{Safe, Sound, At, Same}
 use Rattle.search.specs.Steps.{left, Ready, Six, Back, WayLeft, WaysLeft}
-use Rattle.search.proofs.Marking.{entry-member, apart-same, apart-set}
+use Rattle.memory.proofs.Marking.{entry-member, apart-same, apart-set}
 use Rattle.search.proofs.Safety.{safe-lists, safe-mark, open-less}
 use Rattle.search.proofs.AtWays.{Reached, reached-none, reached-more, reached-all}
 

@@ -19,7 +19,8 @@ use Rattle.repair.specs.Repair.{tollOf, Repair}
 use Rattle.repair.specs.Tree.{order, walked}
 use Rattle.search.specs.declared.Answer.{Answer}
 use Rattle.search.specs.declared.Answer.the-variants.{Refused, Stopped, Nothing, Repaired}
-use Rattle.search.specs.Memory.{pairs, budget}
+use Rattle.memory.specs.Tally.{budget}
+use Rattle.search.specs.Memory.{pairs}
 
 -- 7: "budget too large"
 unfoldable pub tooLarge : ℕ → Finding

@@ -8,8 +8,9 @@ use Rattle.bits.specs.Choice.{pick}
 use Rattle.graph.specs.declared.Finding.the-variants.{Fine}
 use Rattle.graph.specs.Graph.{IsGraph, rowEdge}
 use Rattle.graph.specs.Price.{priceEntries}
-use Rattle.search.specs.declared.Tally.{Tally}
-use Rattle.search.specs.Memory.{pairs, budget}
+use Rattle.memory.specs.declared.Tally.{Tally}
+use Rattle.memory.specs.Tally.{budget}
+use Rattle.search.specs.Memory.{pairs}
 use Rattle.search.specs.declared.Answer.{Answer}
 use Rattle.search.specs.declared.Answer.the-variants.{Stopped, Nothing, Repaired}
 

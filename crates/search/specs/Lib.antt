@@ -1,5 +1,3 @@
-pub mod Table
-pub mod Trail
 pub mod Memory
 pub mod Steps
 pub mod Answer

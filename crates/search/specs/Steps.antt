@@ -13,8 +13,8 @@ use Rattle.walk.specs.Walk.{opens}
 use Rattle.walk.specs.Run.{Outcome, next, runIf, runTries, run}
 use Rattle.walk.specs.Best.{bestOf}
 use Rattle.repair.specs.Tree.{Node, order, free, add, tree, engine}
-use Rattle.search.specs.declared.Tally.{Tally}
-use Rattle.search.specs.Table.{Place, numberAt}
+use Rattle.memory.specs.declared.Tally.{Tally}
+use Rattle.memory.specs.Table.{Place, numberAt}
 use Rattle.search.specs.Memory.{Safe, Sound, At, Same, Follows}
 
 -- the run below a node, with the fuel f

@@ -1,12 +1,12 @@
 // The search tree, walked by a procedure that calls itself at each node.
 ghost use mathlib.Core.Path.{_≡_};
 ghost use Prim.Native.Nat.{_+_, _≤_, _<_};
-ghost use Rattle.search.specs.Table.{Place};
+ghost use Rattle.memory.specs.Table.{Place};
 ghost use Rattle.search.specs.Steps.{Ready, Six, NodeLeft, WaysLeft, WayLeft};
-use crate::Tally;
-use crate::leaf;
-use crate::table;
 use graph::First;
+use memory::Tally;
+use memory::leaf;
+use memory::table;
 
 // Entering a node is one step. A node with no quad is a repair; else its ways are tried, unless the node is left.
 pub fn node(
@@ -125,7 +125,7 @@ fn way(
         prune,
         most,
         count + 1,
-        spent + price as u32,
+        leaf::paid(spent, price),
         t,
     );
     leaf::leave(words, path, count, n, p, at);

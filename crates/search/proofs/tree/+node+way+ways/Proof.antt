@@ -4,7 +4,7 @@ use native.Mathlib.Omega.{arith}
 use borrow.Author.Needs.{needs}
 use borrow.Author.Tests.{not-true, not-false}
 use lib.ListN.{length}
-use Rattle.search.specs.Table.{openPairs}
+use Rattle.search.specs.Memory.{openPairs}
 use Rattle.search.proofs.NodeEnds.{
   quad-inside,
   ready-here,
@@ -31,16 +31,17 @@ use Rattle.search.proofs.tree.ways.Reads as ways
 use Rattle.search.proofs.tree.ways.Kinds as ways-kinds
 use Rattle.search.proofs.tree.+node+way+ways.Lts-ways as ways-lts
 use Rattle.graph.proofs.seek.first_quad.Reads as first-quad-reads
-use Rattle.search.proofs.leaf.enter.Reads as enter-reads
-use Rattle.search.proofs.leaf.entered.Reads as entered-reads
-use Rattle.search.proofs.leaf.keep.Reads as keep-reads
-use Rattle.search.proofs.leaf.leave.Reads as leave-reads
-use Rattle.search.proofs.leaf.leaves.Reads as leaves-reads
-use Rattle.search.proofs.leaf.opens.Reads as opens-reads
-use Rattle.search.proofs.table.costs.Reads as costs-reads
-use Rattle.search.proofs.table.mark.Reads as mark-reads
-use Rattle.search.proofs.table.places.Reads as places-reads
-use Rattle.search.proofs.table.restore.Reads as restore-reads
+use Rattle.memory.proofs.leaf.enter.Reads as enter-reads
+use Rattle.memory.proofs.leaf.entered.Reads as entered-reads
+use Rattle.memory.proofs.leaf.keep.Reads as keep-reads
+use Rattle.memory.proofs.leaf.leave.Reads as leave-reads
+use Rattle.memory.proofs.leaf.leaves.Reads as leaves-reads
+use Rattle.memory.proofs.leaf.opens.Reads as opens-reads
+use Rattle.memory.proofs.leaf.paid.Reads as paid-reads
+use Rattle.memory.proofs.table.costs.Reads as costs-reads
+use Rattle.memory.proofs.table.mark.Reads as mark-reads
+use Rattle.memory.proofs.table.places.Reads as places-reads
+use Rattle.memory.proofs.table.restore.Reads as restore-reads
 use Rattle.search.proofs.tree.+node+way+ways.{statement}
 use Rattle.search.proofs.tree.+node+way+ways.Tie.{close}
 
@@ -95,6 +96,8 @@ way-calls t = (
   opens-reads.Learnt,
   enter-reads.Asked,
   enter-reads.Learnt,
+  paid-reads.Asked,
+  paid-reads.Learnt,
   node-below t,
   node.Post,
   leave-reads.Asked,
@@ -238,32 +241,38 @@ way-add-node t c =
     let m = c .before .before .before .before .before .before .before .before .before .before .before .before .before .before .before .mark in
     omega (arith, path-open (s .args .prune) (s .pre .1 .0) (s .pre .1 .1 .0) (s .pre .1 .1 .1) (m .last .0) (m .result) (m .ensures) (sym (c .before .before .before .before .before .before .before .before .before .before .before .before .opens .ensures) ∙ not-false _ (c .before .before .before .before .before .before .before .before .before .before .before .if1 .left)))
 
-way-cast-node : (t : ℕ) → way-lts.Need-cast-node (way-calls t) (way-at t) way.Post
-way-cast-node t c = search needs
-
-way-add-node-2 : (t : ℕ) → way-lts.Need-add-node-2 (way-calls t) (way-at t) way.Post
-way-add-node-2 t c =
+way-paid-requires : (t : ℕ) → way-lts.Need-paid-requires (way-calls t) (way-at t) way.Post
+way-paid-requires t c κs =
     let s = c .before .before .before .before .before .before .before .before .before .before .before .before .before .before .before .before .before .before .before .before .before in
     let m = c .before .before .before .before .before .before .before .before .before .before .before .before .before .before .before .mark in
-    omega (arith, price-fits (s .args .prune) (s .pre .1 .0) (s .pre .1 .1 .0) (s .pre .1 .1 .1) (m .last .0) (m .result) (m .ensures) (sym (c .before .before .before .before .before .before .before .before .before .before .before .before .opens .ensures) ∙ not-false _ (c .before .before .before .before .before .before .before .before .before .before .before .if1 .left)))
+    price-fits (s .args .prune) (s .pre .1 .0) (s .pre .1 .1 .0) (s .pre .1 .1 .1) (m .last .0) (m .result) (m .ensures) (sym (c .before .before .before .before .before .before .before .before .before .before .before .before .opens .ensures) ∙ not-false _ (c .before .before .before .before .before .before .before .before .before .before .before .if1 .left))
 
 way-node-requires : (t : ℕ) → way-lts.Need-node-requires (way-calls t) (way-at t) way.Post
 way-node-requires t c κs =
-    let s = c .before .before .before .before .before .before .before .before .before .before .before .before .before .before .before .before .before .before .before .before .before in
-    let m = c .before .before .before .before .before .before .before .before .before .before .before .before .before .before .before .mark in
-    let e = c .before .before .before .before .before .before .before .before .enter in (
-      omega (arith, s .pre .0, fewer-open (s .args .prune) (s .pre .1 .0) (s .pre .1 .1 .0) (s .pre .1 .1 .1) (m .last .0) (m .result) (m .ensures) (sym (c .before .before .before .before .before .before .before .before .before .before .before .before .opens .ensures) ∙ not-false _ (c .before .before .before .before .before .before .before .before .before .before .before .if1 .left))),
-      (ready-node (s .args .prune) (s .pre .1 .0) (s .pre .1 .1 .0) (s .pre .1 .1 .1) (m .last .0) (m .result) (m .ensures) (sym (c .before .before .before .before .before .before .before .before .before .before .before .before .opens .ensures) ∙ not-false _ (c .before .before .before .before .before .before .before .before .before .before .before .if1 .left)) (e .last .0) (e .last .1 .0) (e .ensures .0) (e .kept .1 .0), goes-on (s .args .prune) (s .pre .1 .0) (s .pre .1 .1 .0) (s .pre .1 .1 .1) (m .last .0) (m .result) (m .ensures) (sym (c .before .before .before .before .before .before .before .before .before .before .before .before .opens .ensures) ∙ not-false _ (c .before .before .before .before .before .before .before .before .before .before .before .if1 .left))),
+    let s = c .before .before .before .before .before .before .before .before .before .before .before .before .before .before .before .before .before .before .before .before .before .before in
+    let m = c .before .before .before .before .before .before .before .before .before .before .before .before .before .before .before .before .mark in
+    let e = c .before .before .before .before .before .before .before .before .before .enter in (
+      omega (arith, s .pre .0, fewer-open (s .args .prune) (s .pre .1 .0) (s .pre .1 .1 .0) (s .pre .1 .1 .1) (m .last .0) (m .result) (m .ensures) (sym (c .before .before .before .before .before .before .before .before .before .before .before .before .before .opens .ensures) ∙ not-false _ (c .before .before .before .before .before .before .before .before .before .before .before .before .if1 .left))),
+      (
+        ready-node (s .args .prune) (s .pre .1 .0) (s .pre .1 .1 .0) (s .pre .1 .1 .1) (m .last .0) (m .result) (m .ensures) (sym (c .before .before .before .before .before .before .before .before .before .before .before .before .before .opens .ensures) ∙ not-false _ (c .before .before .before .before .before .before .before .before .before .before .before .before .if1 .left)) (c .paid .result) (e .last .0) (e .last .1 .0) (c .paid .ensures) (e .ensures .0) (e .kept .1 .0),
+        goes-on (s .args .prune) (s .pre .1 .0) (s .pre .1 .1 .0) (s .pre .1 .1 .1) (m .last .0) (m .result) (m .ensures) (sym (c .before .before .before .before .before .before .before .before .before .before .before .before .before .opens .ensures) ∙ not-false _ (c .before .before .before .before .before .before .before .before .before .before .before .before .if1 .left)),
+      ),
     )
 
 way-leave-requires : (t : ℕ) → way-lts.Need-leave-requires (way-calls t) (way-at t) way.Post
 way-leave-requires t c κs =
-    let s = c .before .before .before .before .before .before .before .before .before .before .before .before .before .before .before .before .before .before .before .before .before .before .before .before .before .before .before .before .before .before .before .before in
-    let m = c .before .before .before .before .before .before .before .before .before .before .before .before .before .before .before .before .before .before .before .before .before .before .before .before .before .before .mark in
+    let s = c .before .before .before .before .before .before .before .before .before .before .before .before .before .before .before .before .before .before .before .before .before .before .before .before .before .before .before .before .before .before .before .before .before in
+    let m = c .before .before .before .before .before .before .before .before .before .before .before .before .before .before .before .before .before .before .before .before .before .before .before .before .before .before .before .mark in
     let safe = s .pre .1 .0 .safe in
-    let e = c .before .before .before .before .before .before .before .before .before .before .before .before .before .before .before .before .before .before .before .enter in
+    let e = c .before .before .before .before .before .before .before .before .before .before .before .before .before .before .before .before .before .before .before .before .enter in
     let d = c .before .before .before .before .before .before .before .before .before .before .node in (
-      (d .kept .0 ∙ e .kept .0 ∙ safe .shape .many, d .kept .1 .1 .0 ∙ e .kept .1 .0 ∙ safe .long, path-open (s .args .prune) (s .pre .1 .0) (s .pre .1 .1 .0) (s .pre .1 .1 .1) (m .last .0) (m .result) (m .ensures) (sym (c .before .before .before .before .before .before .before .before .before .before .before .before .before .before .before .before .before .before .before .before .before .before .before .opens .ensures) ∙ not-false _ (c .before .before .before .before .before .before .before .before .before .before .before .before .before .before .before .before .before .before .before .before .before .before .if1 .left)), safe .few, s .pre .1 .1 .0),
+      (
+        d .kept .0 ∙ e .kept .0 ∙ safe .shape .many,
+        d .kept .1 .1 .0 ∙ e .kept .1 .0 ∙ safe .long,
+        path-open (s .args .prune) (s .pre .1 .0) (s .pre .1 .1 .0) (s .pre .1 .1 .1) (m .last .0) (m .result) (m .ensures) (sym (c .before .before .before .before .before .before .before .before .before .before .before .before .before .before .before .before .before .before .before .before .before .before .before .before .opens .ensures) ∙ not-false _ (c .before .before .before .before .before .before .before .before .before .before .before .before .before .before .before .before .before .before .before .before .before .before .before .if1 .left)),
+        safe .few,
+        s .pre .1 .1 .0,
+      ),
       (s .pre .1 .1 .1, e .ensures .1 .inside),
     )
 
@@ -271,7 +280,7 @@ way-same-length-2 : (t : ℕ) → way-lts.Need-same-length-2 (way-calls t) (way-
 way-same-length-2 t c = search needs
 
 way-same-length-3 : (t : ℕ) → way-lts.Need-same-length-3 (way-calls t) (way-at t) way.Post
-way-same-length-3 t c = c .before .before .before .before .before .before .before .before .before .before .before .before .before .before .before .node .kept .1 .0 ∙ c .before .before .before .before .before .before .before .before .before .before .before .before .before .before .before .before .before .before .before .before .before .before .before .before .before .before .before .before .before .before .before .mark .kept .0
+way-same-length-3 t c = c .before .before .before .before .before .before .before .before .before .before .before .before .before .before .before .node .kept .1 .0 ∙ c .before .before .before .before .before .before .before .before .before .before .before .before .before .before .before .before .before .before .before .before .before .before .before .before .before .before .before .before .before .before .before .before .mark .kept .0
 
 way-same-length-4 : (t : ℕ) → way-lts.Need-same-length-4 (way-calls t) (way-at t) way.Post
 way-same-length-4 t c = search needs
@@ -281,13 +290,15 @@ way-same-length-5 t c = search needs
 
 way-returns-2 : (t : ℕ) → way-lts.Need-returns-2 (way-calls t) (way-at t) way.Post
 way-returns-2 t c =
-    let s = c .before .before .before .before .before .before .before .before .before .before .before .before .before .before .before .before .before .before .before .before .before .before .before .before .before .before .before .before .before .before .before .before .before .before .before .before .before in
-    let m = c .before .before .before .before .before .before .before .before .before .before .before .before .before .before .before .before .before .before .before .before .before .before .before .before .before .before .before .before .before .before .before .mark in
-    let e = c .before .before .before .before .before .before .before .before .before .before .before .before .before .before .before .before .before .before .before .before .before .before .before .before .enter in
+    let s = c .before .before .before .before .before .before .before .before .before .before .before .before .before .before .before .before .before .before .before .before .before .before .before .before .before .before .before .before .before .before .before .before .before .before .before .before .before .before in
+    let m = c .before .before .before .before .before .before .before .before .before .before .before .before .before .before .before .before .before .before .before .before .before .before .before .before .before .before .before .before .before .before .before .before .mark in
+    let e = c .before .before .before .before .before .before .before .before .before .before .before .before .before .before .before .before .before .before .before .before .before .before .before .before .before .enter in
+    let due = c .before .before .before .before .before .before .before .before .before .before .before .before .before .before .before .before .paid in
     let d = c .before .before .before .before .before .before .before .before .before .before .before .before .before .before .before .node in
     let l = c .before .before .before .before .leave in
-    end-entered (s .args .prune) (s .pre .1 .0) (s .pre .1 .1 .0) (s .pre .1 .1 .1) (m .last .0) (m .result) (m .ensures) (sym (c .before .before .before .before .before .before .before .before .before .before .before .before .before .before .before .before .before .before .before .before .before .before .before .before .before .before .before .before .opens .ensures) ∙ not-false _ (c .before .before .before .before .before .before .before .before .before .before .before .before .before .before .before .before .before .before .before .before .before .before .before .before .before .before .before .if1 .left)) (e .last .0) (e .last .1 .0) (d .last .0) (d .last .1 .0) (d .last .1 .1 .0) (d .last .1 .1 .1 .0)
-    (l .last .0) (l .last .1 .0) (e .result) (d .result) (e .ensures .0) (e .ensures .1) (d .ensures) (l .ensures .0) (l .ensures .1)
+    end-entered (s .args .prune) (s .pre .1 .0) (s .pre .1 .1 .0) (s .pre .1 .1 .1) (m .last .0) (m .result) (m .ensures) (sym (c .before .before .before .before .before .before .before .before .before .before .before .before .before .before .before .before .before .before .before .before .before .before .before .before .before .before .before .before .before .opens .ensures) ∙ not-false _ (c .before .before .before .before .before .before .before .before .before .before .before .before .before .before .before .before .before .before .before .before .before .before .before .before .before .before .before .before .if1 .left))
+    (e .last .0) (e .last .1 .0) (d .last .0) (d .last .1 .0) (d .last .1 .1 .0) (d .last .1 .1 .1 .0) (l .last .0) (l .last .1 .0)
+    (e .result) (due .result) (d .result) (due .ensures) (e .ensures .0) (e .ensures .1) (d .ensures) (l .ensures .0) (l .ensures .1)
 
 abbrev ways-Inv-loop : ways-lts.InvT-loop
 ways-Inv-loop words₀ cost₀ path₀ kept₀ n prune most count spent places old tally₀ w₀ words cost path kept tally w =
@@ -399,8 +410,7 @@ pub +node+way+ways-spec : {M : Type 1} → statement M
     (way-returns t)
     (way-enter-requires t)
     (way-add-node t)
-    (way-cast-node t)
-    (way-add-node-2 t)
+    (way-paid-requires t)
     (way-node-requires t)
     (way-leave-requires t)
     (way-same-length-2 t)
