@@ -2,7 +2,7 @@
 -- are equal. So the table of costs gives the bound of the prices that it was made from. Assumes nothing.
 use mathlib.Core.Path.{_≡_, refl, sym, _∙_, ap, ap₂}
 use mathlib.Core.Logic.{_⊎_, inl, inr, _≢_}
-use mathlib.Core.Bool.{Bool, true, false, not, _&&_, _||_}
+use mathlib.Core.Bool.{Bool, true, not, _&&_, _||_}
 use mathlib.Core.List.{List, [], _∷_, _++_, List·Memᴰ, List·Memᴰ·head, List·Memᴰ·tail}
 use Prim.Native.Nat.{ℕ, _+_, _*_, _/_, _%_, _≤_, _<_, min}
 use native.Mathlib.Nat.{div-add-mod', mod-lt}
@@ -11,7 +11,7 @@ use lib.ListN.{getD}
 use lib.Dec.{ltb, eqb}
 use borrow.Author.Tests.{lt-ltb, le-ltb, ltb-true, eq-eqb, ne-eqb}
 use Rattle.bits.specs.Choice.{pick}
-use Rattle.bits.proofs.Truth.{and-in, and-left, and-right, and-off-right, not-in, not-off, below, equal}
+use Rattle.bits.proofs.Truth.{and-in, and-left, and-right, and-off-right, not-in, not-off, equal}
 use Rattle.graph.specs.declared.Quad.{Quad}
 use Rattle.graph.specs.declared.Finding.the-variants.{Fine}
 use Rattle.graph.specs.Each.{only}
@@ -19,14 +19,14 @@ use Rattle.graph.specs.Price.{fixed, priceEntries}
 use Rattle.graph.specs.Quad.{quads}
 use Rattle.graph.proofs.Facts.{Apart, quad-induced}
 use Rattle.graph.proofs.Quads.{Named, listed-named}
-use Rattle.repair.specs.Pair.{pairOf, isPair, changeable, member, all}
+use Rattle.repair.specs.Pair.{isPair, changeable, member, all}
 use Rattle.repair.specs.Repair.{tollOf}
 use Rattle.repair.specs.Packing.{pairsOf, those, share, lowest, hopeless, empty, stuck, packed, packing}
 use Rattle.repair.proofs.Numbers.{pair-is}
 use Rattle.repair.proofs.Tolls.{some-vertex, tolls-within}
-use Rattle.repair.proofs.Sets.{member-here, member-there, all-at, those-keep, those-drop, those-out}
+use Rattle.repair.proofs.Sets.{member-here, member-there, all-at, those-out}
 use Rattle.bound.specs.Table.{tollAt, freeAt}
-use Rattle.bound.specs.Costs.{costAt, Costs}
+use Rattle.bound.specs.Costs.{Costs}
 use Rattle.bound.proofs.PriceLaws.{cost-pair}
 
 -- equal on every member
