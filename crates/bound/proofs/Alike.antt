@@ -132,7 +132,7 @@ module _ (n : ℕ) (few : n ≤ 128) (prices cost : List ℕ) (C : Costs n price
     unfolding isPair
     inside = ltb-true x (n * n) (and-left (ltb x (n * n)) (ltb (x / n) (x % n)) h)
 
-    toll-made : tollAt n cost x ≡ tollOf prices x
+    pub toll-made : tollAt n cost x ≡ tollOf prices x
     unfolding tollAt
     toll-made =
         let high = mod-lt x (some-vertex n x inside) in
@@ -140,7 +140,7 @@ module _ (n : ℕ) (few : n ≤ 128) (prices cost : List ℕ) (C : Costs n price
         C .each (x / n * 128 + x % n) (omega arith) ∙ sym (cost-pair n prices (x / n) (x % n) low high few) ∙
         ap (λ p. getD prices p 0) (div-add-mod' x n)
 
-    free-made : freeAt n cost x ≡ changeable n (tollOf prices) x
+    pub free-made : freeAt n cost x ≡ changeable n (tollOf prices) x
     unfolding freeAt changeable
     free-made = go (equal (tollOf prices x) fixed)
       where

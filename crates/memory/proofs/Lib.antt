@@ -1,0 +1,4 @@
+pub mod Gaps
+pub mod Inserting
+pub mod Marking
+pub mod Choosing

@@ -1,0 +1,16 @@
+pub mod Placing
+pub mod Runs
+pub mod Safety
+pub mod States
+pub mod Cuts
+pub mod Keeping
+pub mod AtNode
+pub mod AtWay
+pub mod AtWays
+pub mod NodeEnds
+pub mod WayEnds
+pub mod WaysEnds
+pub mod Refusing
+pub mod Starting
+pub mod Ending
+pub mod Determined
