@@ -43,11 +43,11 @@ pub fn opens(price: u16, spent: u32, most: u64, t: Tally) -> bool
 }
 
 // The price of the node below.
-pub fn paid(spent: u32, price: u16) -> u32
-    requires { ⌜ spent + price ≤ budget ⌝ }
-    ensures { λ r. ⌜ r ≡ spent + price ⌝ }
+pub fn paid(above: u32, price: u16) -> u32
+    requires { ⌜ above + price ≤ budget ⌝ }
+    ensures { λ r. ⌜ r ≡ above + price ⌝ }
 {
-    spent + price as u32
+    above + price as u32
 }
 
 // Does the pruned engine leave the node?
@@ -81,7 +81,9 @@ pub fn leave(words: &mut [u64], path: &mut [u16], count: usize, n: usize, p: usi
     ensures { λ r. ⌜ Toggled (p / 128) (p % 128) (now (words .entry)) (now (words .exit)) ⌝ }
     ensures { λ r. ⌜ Closed count at (now (path .entry)) (now (path .exit)) ⌝ }
 {
-    graph::rows::toggle(words, p / 128, p % 128);
+    let x = p / 128;
+    let y = p % 128;
+    graph::rows::toggle(words, x, y);
     trail::close(path, count, at);
 }
 
@@ -94,7 +96,7 @@ fn improves(path: &[u16], kept: &[u16], count: usize, spent: u32, t: Tally) -> b
         return true;
     }
     if spent < t.limit {
-        return true;
+        return true; // it is cheaper
     }
     if t.limit < spent {
         return false;
