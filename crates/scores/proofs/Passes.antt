@@ -1,0 +1,136 @@
+-- S3: what `to_graph` writes passes the checks 3, 4 and 6, and no pair is fixed. Assumes nothing.
+use mathlib.Core.Path.{_≡_, refl, sym, _∙_, ap}
+use mathlib.Core.Logic.{_⊎_, inl, inr, _≢_}
+use mathlib.Core.Bool.{Bool, true, false, not, _&&_, _||_}
+use mathlib.Core.List.{List, [], _∷_, _++_}
+use Prim.Native.Nat.{ℕ, zero, suc, _+_, _*_, _≤_, _<_}
+use native.Mathlib.Omega.{arith}
+use lib.ListN.{length, getD, drop, List·getD-append}
+use lib.IntN.{ℤ}
+use lib.Dec.{ltb, eqb}
+use borrow.Author.Tests.{lt-ltb, le-ltb, eq-eqb, ne-eqb, eqb-true, eqb-false, not-false}
+use Rattle.bits.specs.Choice.{pick}
+use Rattle.bits.proofs.Truth.{which, below, and-in, or-left, pick-true, pick-false}
+use Rattle.graph.specs.declared.Finding.{Finding}
+use Rattle.graph.specs.declared.Finding.the-variants.{Fine, Fault}
+use Rattle.graph.specs.Each.{each, only}
+use Rattle.graph.specs.Refusal.{orElse, firstOf}
+use Rattle.graph.specs.Check.{entry, entries, tooMany, tooShort}
+use Rattle.graph.proofs.CheckLaws.{inside, entry-diagonal-fine, entry-mirrored, firstOf-append, firstOf-one}
+use Rattle.scores.specs.Scale.{onScale, edgeOf, priceOf, spot, place, scoreOf, scoreOff, scoresOff, thresholdOff, edgeByte, priceEntry, square, byRule, priceFault, priceFaults}
+use Rattle.scores.specs.Drawing.{wrongCount, checks, Promise}
+use Rattle.scores.proofs.ScoreFaults.{quiet-all, score-mirror, scores-on}
+use Rattle.scores.proofs.Drawings.{promised}
+use Rattle.scores.proofs.Squares.{length-square, square-at}
+use Rattle.scores.proofs.OnScale.{price-bounds}
+use Rattle.scores.proofs.Entries.{edge-diagonal, price-diagonal}
+
+-- an entry of a list that begins with a matrix
+entry-is :
+    (n : ℕ) (f : ℕ → ℕ → ℕ) (old : List ℕ) {now : List ℕ} → n ≤ 128 → now ≡ square n f ++ drop (n * n) old → (i j : ℕ) → i < n → j < n →
+    getD now (i * n + j) 0 ≡ f i j
+entry-is n f old few e i j hi hj =
+    let at : i * n + j < length (square n f) = omega (arith, inside few hi hj .0, length-square n f) in
+    ap (λ l. getD l (i * n + j) 0) e
+    ∙ List·getD-append (square n f) (drop (n * n) old) 0 (i * n + j) at
+    ∙ square-at n f i j hi hj
+
+module _ (n : ℕ) (t : ℤ) (scores : List ℤ) where
+  edge-small : (i j : ℕ) → edgeByte n t scores i j ≤ 1
+  unfolding edgeByte
+  edge-small i j = go (eqb i j) (edgeOf (scoreOf n scores i j) t)
+    where
+      go : (a b : Bool) → pick a 0 (pick b 1 0) ≤ 1
+      go true b = omega arith
+      go false true = omega arith
+      go false false = omega arith
+
+  edge-mirror : (i j : ℕ) → i ≢ j → edgeByte n t scores i j ≡ edgeByte n t scores j i
+  unfolding edgeByte
+  edge-mirror i j apart =
+      pick-false 0 (pick (edgeOf (scoreOf n scores i j) t) 1 0) (ne-eqb i j apart)
+      ∙ ap (λ z. pick (edgeOf z t) 1 0) (score-mirror n scores i j apart)
+      ∙ sym (pick-false 0 (pick (edgeOf (scoreOf n scores j i) t) 1 0) (ne-eqb j i (λ e. apart (sym e))))
+
+  price-mirror : (i j : ℕ) → i ≢ j → priceEntry n t scores i j ≡ priceEntry n t scores j i
+  unfolding priceEntry
+  price-mirror i j apart =
+      pick-false 0 (priceOf (scoreOf n scores i j) t) (ne-eqb i j apart)
+      ∙ ap (λ z. priceOf z t) (score-mirror n scores i j apart)
+      ∙ sym (pick-false 0 (priceOf (scoreOf n scores j i) t) (ne-eqb j i (λ e. apart (sym e))))
+
+  price-small :
+      (i j : ℕ) → i ≢ j → i < n → j < n → onScale t ≡ true → Fine ≡ scoresOff n scores →
+      (1 ≤ priceEntry n t scores i j) × (priceEntry n t scores i j ≤ 10000)
+  unfolding priceEntry
+  price-small i j apart hi hj on fine =
+      let e : priceEntry n t scores i j ≡ priceOf (scoreOf n scores i j) t =
+      pick-false 0 (priceOf (scoreOf n scores i j) t) (ne-eqb i j apart) in
+      let b = price-bounds (scoreOf n scores i j) t (scores-on n scores i j apart hi hj fine) on in
+      (omega arith, omega arith)
+
+  module _ (graph prices : List ℕ) {graph′ prices′ : List ℕ} (all : Promise n t scores graph prices Fine graph′ prices′) where
+    few : n ≤ 128
+    few = promised n t scores graph prices (all .refused) .0
+
+    edge-at : (i j : ℕ) → i < n → j < n → getD graph′ (i * n + j) 0 ≡ edgeByte n t scores i j
+    edge-at = entry-is n (edgeByte n t scores) graph few (all .meant .0)
+
+    price-at : (i j : ℕ) → i < n → j < n → getD prices′ (i * n + j) 0 ≡ priceEntry n t scores i j
+    price-at = entry-is n (priceEntry n t scores) prices few (all .meant .1)
+
+    -- every price off the diagonal is 1 to 10,000: none is fixed
+    pub prices-free : (i j : ℕ) → i ≢ j → i < n → j < n → (1 ≤ getD prices′ (i * n + j) 0) × (getD prices′ (i * n + j) 0 ≤ 10000)
+    prices-free i j apart hi hj =
+        let ok = promised n t scores graph prices (all .refused) in
+        let b = price-small i j apart hi hj (ok .2) (ok .3) in
+        let e = price-at i j hi hj in
+        (omega arith, omega arith)
+
+    edge-fine : (i j : ℕ) → i < n → j < n → Fine ≡ entry n graph′ i j
+    edge-fine i j hi hj = go (which (eqb i j))
+      where
+        go : (eqb i j ≡ true) ⊎ (eqb i j ≡ false) → Fine ≡ entry n graph′ i j
+        go (inl p) =
+            let e = eqb-true i j p in
+            entry-diagonal-fine n graph′ i j e (edge-at i j hi hj ∙ sym (edge-diagonal n t scores i j e))
+        go (inr p) =
+            let apart : i ≢ j = eqb-false i j p in
+            entry-mirrored n graph′ i j apart (omega (arith, edge-at i j hi hj, edge-small i j))
+            (edge-at i j hi hj ∙ edge-mirror i j apart ∙ sym (edge-at j i hj hi))
+
+    -- the checks 3 and 4
+    pub graph-passes : Fine ≡ entries n graph′
+    unfolding entries
+    graph-passes =
+        sym (quiet-all n (λ i. each n (λ j. entry n graph′ i j ∷ [])) (λ i hi. quiet-all n (λ j. entry n graph′ i j ∷ []) (λ j hj.
+        firstOf-one (entry n graph′ i j) ∙ sym (edge-fine i j hi hj))))
+
+    price-fine : (i j : ℕ) → i < n → j < n → Fine ≡ priceFault n prices′ i j
+    unfolding priceFault byRule
+    price-fine i j hi hj = go (which (eqb i j))
+      where
+        go : (eqb i j ≡ true) ⊎ (eqb i j ≡ false) → Fine ≡ priceFault n prices′ i j
+        go (inl p) =
+            let e = eqb-true i j p in
+            let zero-price : getD prices′ (i * n + j) 0 ≡ 0 = price-at i j hi hj ∙ sym (price-diagonal n t scores i j e) in
+            let mirror : getD prices′ (i * n + j) 0 ≡ getD prices′ (j * n + i) 0 = cc in
+            sym
+            (pick-true Fine (Fault 6 i j)
+            (and-in (pick-true _ _ p ∙ eq-eqb _ _ zero-price) (eq-eqb _ _ mirror)))
+        go (inr p) =
+            let apart : i ≢ j = eqb-false i j p in
+            let b = prices-free i j apart hi hj in
+            let mirror = price-at i j hi hj ∙ price-mirror i j apart ∙ sym (price-at j i hj hi) in
+            let some : 0 < getD prices′ (i * n + j) 0 = omega arith in
+            let most : getD prices′ (i * n + j) 0 < 10001 = omega arith in
+            sym
+            (pick-true Fine (Fault 6 i j)
+            (and-in (pick-false _ _ p ∙ or-left _ (and-in (lt-ltb _ _ some) (lt-ltb _ _ most))) (eq-eqb _ _ mirror)))
+
+    -- the check 6
+    pub prices-pass : Fine ≡ priceFaults n prices′
+    unfolding priceFaults
+    prices-pass =
+        sym (quiet-all n (λ i. each n (λ j. priceFault n prices′ i j ∷ [])) (λ i hi. quiet-all n (λ j. priceFault n prices′ i j ∷ []) (λ j hj.
+        firstOf-one (priceFault n prices′ i j) ∙ sym (price-fine i j hi hj))))
