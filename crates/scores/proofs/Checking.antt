@@ -7,7 +7,7 @@ use native.Mathlib.Omega.{arith}
 use Rattle.graph.specs.declared.Finding.{Finding}
 use Rattle.graph.specs.declared.Finding.the-variants.{Fine, Fault}
 use Rattle.graph.specs.Refusal.{row, orElse, firstOf}
-use Rattle.graph.proofs.CheckLaws.{firstOf-append}
+use Rattle.graph.proofs.Leading.{firstOf-leading, fault-not-fine}
 
 pub hit : {b : Bool} (number : ℕ) (xs : List Finding) → b ≡ true → Fault number 0 0 ≡ firstOf (row number b ∷ xs)
 unfolding row firstOf
@@ -33,8 +33,7 @@ fine-first (Fault number i j) y e = absurd (let z : _≡_ {A = ℕ} 0 1 = cc in 
 
 -- the first checks of a call decide where they find something, else the others
 pub decided : {x : Finding} {number i j : ℕ} (xs ys : List Finding) → x ≡ Fault number i j → x ≡ firstOf xs → x ≡ firstOf (xs ++ ys)
-decided {x} {number} {i} {j} xs ys told e =
-    sym (firstOf-append xs ys ∙ ap (λ y. orElse y (firstOf ys)) (sym e ∙ told) ∙ sym told)
+decided xs ys told e = e ∙ sym (firstOf-leading .stays xs ys (λ q. fault-not-fine (sym told ∙ e ∙ q)))
 
 pub left-over : (xs ys : List Finding) → Fine ≡ firstOf xs → firstOf ys ≡ firstOf (xs ++ ys)
-left-over xs ys e = sym (firstOf-append xs ys ∙ ap (λ y. orElse y (firstOf ys)) (sym e))
+left-over xs ys e = sym (firstOf-leading .skips xs ys (sym e))

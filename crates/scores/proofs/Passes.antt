@@ -8,18 +8,19 @@ use native.Mathlib.Omega.{arith}
 use lib.ListN.{length, getD, drop, List·getD-append}
 use lib.IntN.{ℤ}
 use lib.Dec.{ltb, eqb}
-use borrow.Author.Tests.{lt-ltb, le-ltb, eq-eqb, ne-eqb, eqb-true, eqb-false, not-false}
+use borrow.Author.Tests.{le-leb, eq-eqb, ne-eqb, eqb-true, eqb-false}
 use Rattle.bits.specs.Choice.{pick}
-use Rattle.bits.proofs.Truth.{which, below, and-in, or-left, pick-true, pick-false}
+use Rattle.bits.proofs.Truth.{which, equal, and-in, or-left, pick-true, pick-false}
 use Rattle.graph.specs.declared.Finding.{Finding}
 use Rattle.graph.specs.declared.Finding.the-variants.{Fine, Fault}
-use Rattle.graph.specs.Each.{each, only}
-use Rattle.graph.specs.Refusal.{orElse, firstOf}
-use Rattle.graph.specs.Check.{entry, entries, tooMany, tooShort}
-use Rattle.graph.proofs.CheckLaws.{inside, entry-diagonal-fine, entry-mirrored, firstOf-append, firstOf-one}
-use Rattle.scores.specs.Scale.{onScale, edgeOf, priceOf, spot, place, scoreOf, scoreOff, scoresOff, thresholdOff, edgeByte, priceEntry, square, byRule, priceFault, priceFaults}
+use Rattle.graph.specs.Check.{entry, entries}
+use Rattle.graph.specs.Price as rule
+use Rattle.graph.proofs.CheckLaws.{inside}
+use Rattle.graph.proofs.Reading.{small-good, entry-fine, fine-entries}
+use Rattle.graph.proofs.Grid.{fine-grid}
+use Rattle.scores.specs.Scale.{onScale, edgeOf, priceOf, spot, place, scoreOf, scoreOff, scoresOff, thresholdOff, edgeByte, priceEntry, square}
 use Rattle.scores.specs.Drawing.{wrongCount, checks, Promise}
-use Rattle.scores.proofs.ScoreFaults.{quiet-all, score-mirror, scores-on}
+use Rattle.scores.proofs.ScoreFaults.{score-mirror, scores-on}
 use Rattle.scores.proofs.Drawings.{promised}
 use Rattle.scores.proofs.Squares.{length-square, square-at}
 use Rattle.scores.proofs.OnScale.{price-bounds}
@@ -87,50 +88,39 @@ module _ (n : ℕ) (t : ℤ) (scores : List ℤ) where
         let e = price-at i j hi hj in
         (omega arith, omega arith)
 
-    edge-fine : (i j : ℕ) → i < n → j < n → Fine ≡ entry n graph′ i j
-    edge-fine i j hi hj = go (which (eqb i j))
+    edge-fine : (i j : ℕ) → i < n → j < n → entry n graph′ i j ≡ Fine
+    edge-fine i j hi hj =
+        entry-fine n graph′ i j
+        (small-good n graph′ i j (omega (arith, edge-at i j hi hj, edge-small i j))
+        (λ e. edge-at i j hi hj ∙ sym (edge-diagonal n t scores i j e)))
+        (go (equal i j))
       where
-        go : (eqb i j ≡ true) ⊎ (eqb i j ≡ false) → Fine ≡ entry n graph′ i j
-        go (inl p) =
-            let e = eqb-true i j p in
-            entry-diagonal-fine n graph′ i j e (edge-at i j hi hj ∙ sym (edge-diagonal n t scores i j e))
-        go (inr p) =
-            let apart : i ≢ j = eqb-false i j p in
-            entry-mirrored n graph′ i j apart (omega (arith, edge-at i j hi hj, edge-small i j))
-            (edge-at i j hi hj ∙ edge-mirror i j apart ∙ sym (edge-at j i hj hi))
+        go : (i ≡ j) ⊎ (i ≢ j) → getD graph′ (i * n + j) 0 ≡ getD graph′ (j * n + i) 0
+        go (inl e) = cc
+        go (inr apart) = edge-at i j hi hj ∙ edge-mirror i j apart ∙ sym (edge-at j i hj hi)
 
     -- the checks 3 and 4
-    pub graph-passes : Fine ≡ entries n graph′
-    unfolding entries
-    graph-passes =
-        sym (quiet-all n (λ i. each n (λ j. entry n graph′ i j ∷ [])) (λ i hi. quiet-all n (λ j. entry n graph′ i j ∷ []) (λ j hj.
-        firstOf-one (entry n graph′ i j) ∙ sym (edge-fine i j hi hj))))
+    pub graph-passes : entries n graph′ ≡ Fine
+    graph-passes = fine-entries n graph′ edge-fine
 
-    price-fine : (i j : ℕ) → i < n → j < n → Fine ≡ priceFault n prices′ i j
-    unfolding priceFault byRule
+    price-fine : (i j : ℕ) → i < n → j < n → rule.priceEntry n prices′ i j ≡ Fine
+    unfolding rule.priceEntry rule.priced
     price-fine i j hi hj = go (which (eqb i j))
       where
-        go : (eqb i j ≡ true) ⊎ (eqb i j ≡ false) → Fine ≡ priceFault n prices′ i j
+        go : (eqb i j ≡ true) ⊎ (eqb i j ≡ false) → rule.priceEntry n prices′ i j ≡ Fine
         go (inl p) =
             let e = eqb-true i j p in
             let zero-price : getD prices′ (i * n + j) 0 ≡ 0 = price-at i j hi hj ∙ sym (price-diagonal n t scores i j e) in
             let mirror : getD prices′ (i * n + j) 0 ≡ getD prices′ (j * n + i) 0 = cc in
-            sym
-            (pick-true Fine (Fault 6 i j)
-            (and-in (pick-true _ _ p ∙ eq-eqb _ _ zero-price) (eq-eqb _ _ mirror)))
+            pick-true Fine (Fault 6 i j) (and-in (pick-true _ _ p ∙ eq-eqb _ _ zero-price) (eq-eqb _ _ mirror))
         go (inr p) =
             let apart : i ≢ j = eqb-false i j p in
             let b = prices-free i j apart hi hj in
             let mirror = price-at i j hi hj ∙ price-mirror i j apart ∙ sym (price-at j i hj hi) in
-            let some : 0 < getD prices′ (i * n + j) 0 = omega arith in
-            let most : getD prices′ (i * n + j) 0 < 10001 = omega arith in
-            sym
-            (pick-true Fine (Fault 6 i j)
-            (and-in (pick-false _ _ p ∙ or-left _ (and-in (lt-ltb _ _ some) (lt-ltb _ _ most))) (eq-eqb _ _ mirror)))
+            pick-true Fine (Fault 6 i j)
+            (and-in (pick-false _ _ p ∙ or-left _ (and-in (le-leb _ _ (b .0)) (le-leb _ _ (b .1)))) (eq-eqb _ _ mirror))
 
     -- the check 6
-    pub prices-pass : Fine ≡ priceFaults n prices′
-    unfolding priceFaults
-    prices-pass =
-        sym (quiet-all n (λ i. each n (λ j. priceFault n prices′ i j ∷ [])) (λ i hi. quiet-all n (λ j. priceFault n prices′ i j ∷ []) (λ j hj.
-        firstOf-one (priceFault n prices′ i j) ∙ sym (price-fine i j hi hj))))
+    pub prices-pass : rule.priceEntries n prices′ ≡ Fine
+    unfolding rule.priceEntries
+    prices-pass = fine-grid n (rule.priceEntry n prices′) price-fine

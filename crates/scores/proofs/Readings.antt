@@ -10,7 +10,7 @@ use borrow.Author.Tests.{lt-ltb, le-ltb}
 use Rattle.graph.specs.declared.Finding.{Finding}
 use Rattle.graph.specs.declared.Finding.the-variants.{Fine, Fault}
 use Rattle.graph.specs.Refusal.{firstOf}
-use Rattle.graph.proofs.CheckLaws.{firstOf-one}
+use Rattle.graph.proofs.Refusals.{firstOf-single}
 use Rattle.scores.specs.declared.Reading.the-variants.{Refused, Sheet}
 use Rattle.scores.specs.Scale.{half}
 use Rattle.scores.specs.Sheet.{notesOf, sizeOf, thresholdOf, scoresOf, scoreAt}
@@ -27,14 +27,14 @@ module _ (sheet : List ℕ) (out : List ℤ) where
   pub refused-sheet : {number i j : ℕ} → Fault number i j ≡ sheetFault sheet → Promise sheet out (Refused number i j) out
   unfolding checks
   refused-sheet e = record {
-    refused = decided (sheetFault sheet ∷ []) room refl (e ∙ sym (firstOf-one (sheetFault sheet)));
+    refused = decided (sheetFault sheet ∷ []) room refl (e ∙ sym (firstOf-single (sheetFault sheet)));
     meant = refl;
   }
 
   module _ (right : Fine ≡ sheetFault sheet) where
     rest : firstOf room ≡ firstOf (checks sheet out)
     unfolding checks
-    rest = left-over (sheetFault sheet ∷ []) room (right ∙ sym (firstOf-one (sheetFault sheet)))
+    rest = left-over (sheetFault sheet ∷ []) room (right ∙ sym (firstOf-single (sheetFault sheet)))
 
     pub refused-room : length out < half (sizeOf sheet) → Promise sheet out (Refused 10 0 0) out
     unfolding noRoom

@@ -18,7 +18,7 @@ use Rattle.graph.specs.declared.Finding.the-variants.{Fine}
 use Rattle.graph.specs.Each.{each}
 use Rattle.graph.specs.Refusal.{firstOf}
 use Rattle.graph.specs.Check.{tooMany}
-use Rattle.graph.proofs.CheckLaws.{firstOf-one}
+use Rattle.graph.proofs.Refusals.{firstOf-single}
 use Rattle.scores.specs.declared.Reading.the-variants.{Sheet}
 use Rattle.scores.specs.declared.Writing.{Writing}
 use Rattle.scores.specs.declared.Writing.the-variants.{Written}
@@ -176,7 +176,7 @@ writes sheet notes scores n t few count short on fine =
     let counts : Fine ≡ firstOf (tooMany n ∷ wrongCount scores n ∷ []) =
     done ∙ pass 2 [] (not-off (eq-eqb _ _ count)) ∙ pass 1 (wrongCount scores n ∷ []) (le-ltb 128 n few) in
     let offs : Fine ≡ firstOf (thresholdOff t ∷ scoresOff n scores ∷ []) =
-    fine ∙ sym (firstOf-one (scoresOff n scores)) ∙ pass 5 (scoresOff n scores ∷ []) (not-off on) in
+    fine ∙ sym (firstOf-single (scoresOff n scores)) ∙ pass 5 (scoresOff n scores ∷ []) (not-off on) in
     scale-decides notes scores n t counts short Fine offs
 
 again :

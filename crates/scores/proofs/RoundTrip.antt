@@ -16,7 +16,7 @@ use Rattle.graph.specs.declared.Finding.the-variants.{Fine}
 use Rattle.graph.specs.Each.{each}
 use Rattle.graph.specs.Refusal.{firstOf}
 use Rattle.graph.specs.Check.{tooShort}
-use Rattle.graph.proofs.CheckLaws.{firstOf-one}
+use Rattle.graph.proofs.Refusals.{firstOf-single}
 use Rattle.scores.specs.declared.Reading.{Reading}
 use Rattle.scores.specs.declared.Reading.the-variants.{Sheet}
 use Rattle.scores.specs.declared.Writing.the-variants.{Written}
@@ -154,7 +154,7 @@ on-both : (n : ℕ) (t : ℤ) (scores : List ℤ) → Fine ≡ firstOf (threshol
 unfolding thresholdOff
 on-both n t scores e =
     let a = fine-out 5 (not (onScale t)) (scoresOff n scores ∷ []) e in
-    (not-false (onScale t) (a .0), a .1 ∙ firstOf-one (scoresOff n scores))
+    (not-false (onScale t) (a .0), a .1 ∙ firstOf-single (scoresOff n scores))
 
 pub unrefused : (notes : List ℕ) (scores : List ℤ) (n : ℕ) (t : ℤ) (buf : List ℕ) → Fine ≡ firstOf (writer.checks notes scores n t buf) → Fine ≡ writer.writeFault notes scores n t
 unfolding writer.checks firstOf

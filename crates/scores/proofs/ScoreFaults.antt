@@ -16,31 +16,14 @@ use Rattle.graph.specs.declared.Finding.{Finding}
 use Rattle.graph.specs.declared.Finding.the-variants.{Fine, Fault}
 use Rattle.graph.specs.Each.{each, only}
 use Rattle.graph.specs.Refusal.{firstOf}
-use Rattle.graph.proofs.CheckLaws.{firstOf-append, firstOf-one, found-here}
+use Rattle.graph.proofs.Refusals.{firstOf-single}
+use Rattle.graph.proofs.Leading.{firstOf-leading, each-nothing, nothing-each}
+use Rattle.graph.proofs.CheckLaws.{found-here}
 use Rattle.scores.specs.Scale.{onScale, half, place, spot, scoreOf, scoreOff, scoresOff}
 use Rattle.scores.specs.Inner.{FirstOff, FaultAt}
 use Rattle.scores.proofs.Checking.{fine-first}
 use Rattle.scores.proofs.Squares.{each-at}
 use Rattle.scores.proofs.Places.{place-onto, place-below, place-row, place-later-column, place-later-row}
-
--- nothing is found where nothing is found below n
-pub quiet-all : (n : ℕ) (f : ℕ → List Finding) → ((k : ℕ) → k < n → firstOf (f k) ≡ Fine) → firstOf (each n f) ≡ Fine
-unfolding each firstOf
-quiet-all zero f h = refl
-quiet-all (suc n) f h = rw (firstOf-append, quiet-all n f (λ k l. h k (omega arith)), h n (omega arith))
-
--- and where nothing is found at all, nothing is found at any k
-pub quiet-at : (n : ℕ) (f : ℕ → List Finding) (k : ℕ) → k < n → Fine ≡ firstOf (each n f) → Fine ≡ firstOf (f k)
-unfolding each
-quiet-at zero f k h e = absurd (omega arith)
-quiet-at (suc n) f k h e =
-    go (quiet-at n f k) (fine-first (firstOf (each n f)) (firstOf (f n)) (e ∙ firstOf-append (each n f) (f n))) (below k n)
-  where
-    go :
-        (k < n → Fine ≡ firstOf (each n f) → Fine ≡ firstOf (f k)) → (Fine ≡ firstOf (each n f)) × (Fine ≡ firstOf (f n)) →
-        (k < n) ⊎ (n ≤ k) → Fine ≡ firstOf (f k)
-    go lower both (inl p) = lower p (both .0)
-    go lower both (inr p) = let q : n ≡ k = omega arith in both .1 ∙ ap (λ x. firstOf (f x)) q
 
 module _ (n : ℕ) (scores : List ℤ) where
   abbrev on : ℕ → Bool
@@ -60,7 +43,7 @@ module _ (n : ℕ) (scores : List ℤ) where
       go : (i < j) ⊎ (j ≤ i) → firstOf (cell i j) ≡ Fine
       go (inl p) =
           ap (λ b. firstOf (only b (scoreOff n scores i j))) (lt-ltb i j p)
-          ∙ firstOf-one (scoreOff n scores i j)
+          ∙ firstOf-single (scoreOff n scores i j)
           ∙ pick-true Fine (Fault 5 i j) (ap onScale (score-place i j p) ∙ h p)
       go (inr p) = ap (λ b. firstOf (only b (scoreOff n scores i j))) (le-ltb i j p)
 
@@ -69,7 +52,7 @@ module _ (n : ℕ) (scores : List ℤ) where
   loud-cell i j h off =
       sym
       (ap (λ b. firstOf (only b (scoreOff n scores i j))) (lt-ltb i j h)
-      ∙ firstOf-one (scoreOff n scores i j)
+      ∙ firstOf-single (scoreOff n scores i j)
       ∙ pick-false Fine (Fault 5 i j) (ap onScale (score-place i j h) ∙ off))
 
   -- the pair {i, j} has one score
@@ -89,7 +72,7 @@ module _ (n : ℕ) (scores : List ℤ) where
   up-on : (i j : ℕ) → i < j → j < n → Fine ≡ scoresOff n scores → onScale (scoreOf n scores i j) ≡ true
   unfolding scoresOff scoreOff
   up-on i j up hj e =
-      let here : Fine ≡ firstOf (cell i j) = quiet-at n (cell i) j hj (quiet-at n (λ i. each n (cell i)) i (omega arith) e) in
+      let here : Fine ≡ firstOf (cell i j) = sym (nothing-each firstOf-leading n (cell i) (nothing-each firstOf-leading n (λ i. each n (cell i)) (sym e) i (omega arith)) j hj) in
       passes (λ off. clash (here ∙ sym (loud-cell i j up (sym (ap onScale (score-place i j up)) ∙ off))))
     where
       clash : Fine ≡ Fault 5 i j → ⊥
@@ -111,7 +94,7 @@ module _ (n : ℕ) (scores : List ℤ) where
   pub scores-fine : (r : ℕ) → FirstOff on (half n) r → half n ≤ r → Fine ≡ scoresOff n scores
   unfolding scoresOff
   scores-fine r o h =
-      sym (quiet-all n (λ i. each n (cell i)) (λ i hi. quiet-all n (cell i) (λ j hj.
+      sym (each-nothing firstOf-leading n (λ i. each n (cell i)) (λ i hi. each-nothing firstOf-leading n (cell i) (λ j hj.
       quiet-cell i j (λ up. o .before (place n i j) (omega (arith, place-below n up hj))))))
 
   -- the first that is off
@@ -124,12 +107,12 @@ module _ (n : ℕ) (scores : List ℤ) where
       let here : Fault 5 i j ≡ firstOf (cell i j) = loud-cell i j up (ap on e ∙ o .here h) in
       let row : Fault 5 i j ≡ firstOf (each n (cell i)) =
       found-here (cell i) n j (at .2)
-      (quiet-all j (cell i) (λ b hb. quiet-cell i b (λ u. o .before (place n i b) (omega (arith, place-later-column n u (omega arith) hb)))))
+      (λ b hb. quiet-cell i b (λ u. o .before (place n i b) (omega (arith, place-later-column n u (omega arith) hb))))
       here refl in
       ap (λ (x : ℕ). Fault x i j) (at .0)
       ∙ found-here (λ a. each n (cell a)) n i (omega arith)
-      (quiet-all i (λ a. each n (cell a)) (λ a ha. quiet-all n (cell a) (λ b hb. quiet-cell a b (λ u.
-      o .before (place n a b) (omega (arith, place-later-row n u hb i 0 ha, place-row n up (at .2)))))))
+      (λ a ha. each-nothing firstOf-leading n (cell a) (λ b hb. quiet-cell a b (λ u.
+      o .before (place n a b) (omega (arith, place-later-row n u hb i 0 ha, place-row n up (at .2))))))
       row refl
 
 -- the same of scores that are listed from f

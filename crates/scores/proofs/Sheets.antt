@@ -13,7 +13,7 @@ use Rattle.graph.specs.declared.Finding.{Finding}
 use Rattle.graph.specs.declared.Finding.the-variants.{Fine, Fault}
 use Rattle.graph.specs.Refusal.{row, firstOf}
 use Rattle.graph.specs.Check.{tooMany}
-use Rattle.graph.proofs.CheckLaws.{firstOf-one}
+use Rattle.graph.proofs.Refusals.{firstOf-single}
 use Rattle.scores.specs.Scale.{onScale, thresholdOff, scoresOff}
 use Rattle.scores.specs.Sheet.{sheetLength, notesOf, sizeOf, thresholdOf, scoresOf}
 use Rattle.scores.specs.Reader.{wrongLayout, layoutFault, sheetFault}
@@ -84,12 +84,12 @@ module _ (sheet : List ℕ) where
 
   pub layout-refused : {number i j : ℕ} (x : Finding) → x ≡ Fault number i j → x ≡ layoutFault sheet → x ≡ sheetFault sheet
   unfolding sheetFault
-  layout-refused x told e = decided (layoutFault sheet ∷ []) scales told (e ∙ sym (firstOf-one (layoutFault sheet)))
+  layout-refused x told e = decided (layoutFault sheet ∷ []) scales told (e ∙ sym (firstOf-single (layoutFault sheet)))
 
   module _ (right : Fine ≡ layoutFault sheet) where
     rest : firstOf scales ≡ sheetFault sheet
     unfolding sheetFault
-    rest = left-over (layoutFault sheet ∷ []) scales (right ∙ sym (firstOf-one (layoutFault sheet)))
+    rest = left-over (layoutFault sheet ∷ []) scales (right ∙ sym (firstOf-single (layoutFault sheet)))
 
     pub threshold-off : onScale (thresholdOf sheet) ≡ false → Fault 5 0 0 ≡ sheetFault sheet
     unfolding thresholdOff
@@ -98,7 +98,7 @@ module _ (sheet : List ℕ) where
     pub scores-decide : onScale (thresholdOf sheet) ≡ true → (x : Finding) → x ≡ scoresOff (sizeOf sheet) (scoresOf sheet) → x ≡ sheetFault sheet
     unfolding thresholdOff
     scores-decide h x e =
-        e ∙ sym (firstOf-one _) ∙ pass 5 (scoresOff (sizeOf sheet) (scoresOf sheet) ∷ []) (not-off h) ∙ rest
+        e ∙ sym (firstOf-single _) ∙ pass 5 (scoresOff (sizeOf sheet) (scoresOf sheet) ∷ []) (not-off h) ∙ rest
 
   -- what the reader would refuse for nothing but room: layout, threshold and scores are right
   pub sound : Fine ≡ sheetFault sheet → Laid × (onScale (thresholdOf sheet) ≡ true) × (Fine ≡ scoresOff (sizeOf sheet) (scoresOf sheet))
@@ -106,4 +106,4 @@ module _ (sheet : List ℕ) where
   sound e =
       let a = fine-first (layoutFault sheet) (firstOf scales) e in
       let b = fine-out 5 (not (onScale (thresholdOf sheet))) (scoresOff (sizeOf sheet) (scoresOf sheet) ∷ []) (a .1) in
-      (laid (a .0), not-false _ (b .0), b .1 ∙ firstOf-one _)
+      (laid (a .0), not-false _ (b .0), b .1 ∙ firstOf-single _)

@@ -15,7 +15,7 @@ use Rattle.graph.specs.declared.Finding.{Finding}
 use Rattle.graph.specs.declared.Finding.the-variants.{Fine, Fault}
 use Rattle.graph.specs.Refusal.{firstOf}
 use Rattle.graph.specs.Check.{tooMany, tooShort}
-use Rattle.graph.proofs.CheckLaws.{firstOf-one, firstOf-append}
+use Rattle.graph.proofs.Refusals.{firstOf-single}
 use Rattle.scores.specs.declared.Writing.the-variants.{Refused, Written}
 use Rattle.scores.specs.Scale.{half, thresholdOff, scoresOff}
 use Rattle.scores.specs.Sheet.{lowFirst, signedBytes, scoreBytes, trailer, sheetBytes, sheetLength}
@@ -100,14 +100,14 @@ module _ (notes : List ℕ) (scores : List ℤ) (n : ℕ) (t : ℤ) where
     pub refused-write : {number i j : ℕ} → Fault number i j ≡ writeFault notes scores n t → Promise notes scores n t buf (Refused number i j) buf
     unfolding checks
     refused-write e = record {
-      refused = decided (writeFault notes scores n t ∷ []) room refl (e ∙ sym (firstOf-one (writeFault notes scores n t)));
+      refused = decided (writeFault notes scores n t ∷ []) room refl (e ∙ sym (firstOf-single (writeFault notes scores n t)));
       meant = refl;
     }
 
     module _ (right : Fine ≡ writeFault notes scores n t) where
       rest : firstOf room ≡ firstOf (checks notes scores n t buf)
       unfolding checks
-      rest = left-over (writeFault notes scores n t ∷ []) room (right ∙ sym (firstOf-one (writeFault notes scores n t)))
+      rest = left-over (writeFault notes scores n t ∷ []) room (right ∙ sym (firstOf-single (writeFault notes scores n t)))
 
       pub refused-room : length buf < sheetLength (length notes) n → Promise notes scores n t buf (Refused 10 0 0) buf
       unfolding tooShort

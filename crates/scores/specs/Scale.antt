@@ -70,18 +70,3 @@ priceEntry n t scores i j = pick (eqb i j) 0 (priceOf (scoreOf n scores i j) t)
 -- "n x n bytes, row by row", "n x n 16-bit numbers"
 abbrev pub square : ℕ → (ℕ → ℕ → ℕ) → List ℕ
 square n f = each n (λ i. each n (λ j. f i j ∷ []))
-
--- "diagonal 0, .. each 1 to 10,000, or 65,535 for a pair that is fixed"
-unfoldable pub byRule : ℕ → ℕ → ℕ → Bool
-byRule i j price = pick (eqb i j) (eqb price 0) ((ltb 0 price && ltb price 10001) || eqb price 65535)
-
--- 6: "price outside the rule, or differs from its mirror", here at row i, column j
-unfoldable pub priceFault : ℕ → List ℕ → ℕ → ℕ → Finding
-priceFault n prices i j =
-    pick (byRule i j (getD prices (i * n + j) 0) && eqb (getD prices (i * n + j) 0) (getD prices (j * n + i) 0))
-    Fine
-    (Fault 6 i j)
-
--- "the first at fault row by row"
-unfoldable pub priceFaults : ℕ → List ℕ → Finding
-priceFaults n prices = firstOf (each n (λ i. each n (λ j. priceFault n prices i j ∷ [])))

@@ -5,7 +5,7 @@ use mathlib.Core.Path.{_≡_, sym, _∙_, ap}
 use mir.Syntax.{w16}
 use mir.ValLaws.{toZ-ofZ}
 use Rattle.bits.proofs.Truth.{not-in, not-off}
-use Rattle.graph.proofs.CheckLaws.{firstOf-one}
+use Rattle.graph.proofs.Refusals.{firstOf-single}
 use Rattle.graph.specs.Refusal.{firstOf}
 use Rattle.scores.proofs.Checking.{hit, pass}
 use Rattle.scores.proofs.scale.scale_fault.Statement.{statement}
@@ -23,7 +23,7 @@ unfolding thresholdOff
 returns c =
     let o = c .before .before .before in
     let t = c .before .before .on-scale .ensures ∙ ap onScale (toZ-ofZ w16 (o .args .t) (o .fits .t)) in
-    c .off-scale .ensures ∙ sym (firstOf-one _) ∙ pass 5 _ (not-off (sym t ∙ c .before .if1 .taken))
+    c .off-scale .ensures ∙ sym (firstOf-single _) ∙ pass 5 _ (not-off (sym t ∙ c .before .if1 .taken))
 
 returns-2 : tie.Need-returns-2
 unfolding thresholdOff
