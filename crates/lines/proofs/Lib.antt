@@ -1,0 +1,4 @@
+pub mod Behind
+pub mod Decimals
+pub mod Turns
+pub mod Spelling
