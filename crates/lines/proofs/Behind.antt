@@ -1,13 +1,15 @@
 -- Bytes put into a text one piece behind the other: what is put behind what is written makes one piece with it. The text's
 -- length stays. Assumes nothing.
-use mathlib.Core.Path.{_≡_, refl, sym, _∙_, ap, ap₂}
+use mathlib.Core.Path.{_≡_, refl, sym, _∙_, ap, ap₂, subst}
+use mathlib.Core.Logic.{_⊎_, inl, inr}
 use mathlib.Core.List.{List, [], _∷_, _++_, append-assoc, append-nil}
-use Prim.Native.Nat.{ℕ, suc, _+_, _≤_, _<_}
+use Prim.Native.Nat.{ℕ, zero, suc, _+_, _≤_, _<_}
 use native.Mathlib.Nat.{add-zero}
 use native.Mathlib.Numerals.{add-one}
 use native.Mathlib.Omega.{arith}
 use lib.ListN.{length, getD, take, drop, set, length-append, length-drop, take-append-drop}
 use lib.Seq.{length-take-le, take-suc, take-at, drop-at, drop-drop, set-split, append-snoc}
+use Rattle.bits.proofs.Truth.{below}
 use Rattle.graph.specs.Each.{each}
 use Rattle.lines.specs.Put.{Put}
 
@@ -76,6 +78,13 @@ module _ (old : List ℕ) (at : ℕ) (first : List ℕ) (room : at + length firs
           joined : at + length first + length then ≡ at + length (first ++ then)
           joined = omega (arith, length-append first then)
 
+-- the same bytes by another name
+pub room-as : (at : ℕ) {long : ℕ} {a b : List ℕ} → a ≡ b → at + length b ≤ long → at + length a ≤ long
+room-as at e room = omega (arith, ap length e)
+
+pub put-as : {old now a b : List ℕ} {at r : ℕ} → a ≡ b → Put old at a r now → Put old at b r now
+put-as {old} {now} {at = at} {r = r} e put = subst (λ l. Put old at l r now) e put
+
 -- two pieces where both have room
 module _ (old : List ℕ) (at : ℕ) (first then : List ℕ) (room : at + length (first ++ then) ≤ length old) where
   pub first-room : at + length first ≤ length old
@@ -95,3 +104,15 @@ each-more f k = ap (λ (m : ℕ). each m f) (sym (add-one k))
 
 pub take-more : (word : List ℕ) (k : ℕ) → k < length word → take k word ++ (getD word k 0 ∷ []) ≡ take (k + 1) word
 take-more word k h = sym (take-suc word k 0 h) ∙ ap (λ (m : ℕ). take m word) (sym (add-one k))
+
+-- more of them are no shorter
+pub each-longer : (f : ℕ → List ℕ) (k m : ℕ) → k ≤ m → length (each k f) ≤ length (each m f)
+unfolding each
+each-longer f k zero h = let e : k ≡ 0 = omega arith in omega (arith, ap (λ (x : ℕ). length (each x f)) e)
+each-longer f k (suc m) h = go (each-longer f k m) (below k (suc m))
+  where
+    go :
+        (k ≤ m → length (each k f) ≤ length (each m f)) → (k < suc m) ⊎ (suc m ≤ k) →
+        length (each k f) ≤ length (each (suc m) f)
+    go shorter (inl l) = omega (arith, shorter (omega arith), length-append (each m f) (f m))
+    go shorter (inr l) = let e : k ≡ suc m = omega arith in omega (arith, ap (λ (x : ℕ). length (each x f)) e)

@@ -2,3 +2,4 @@ pub mod Behind
 pub mod Decimals
 pub mod Turns
 pub mod Spelling
+pub mod Changing

@@ -1,5 +1,7 @@
 // The lines of the report program: the whole output for any input, in a lent text.
 
+mod mend;
+mod page;
 mod text;
 
 // What `report` answers: a refusal with its number and place, or the length of the lines.
