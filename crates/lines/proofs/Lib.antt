@@ -3,3 +3,5 @@ pub mod Decimals
 pub mod Turns
 pub mod Spelling
 pub mod Changing
+pub mod Drawn
+pub mod Mending

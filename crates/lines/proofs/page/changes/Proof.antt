@@ -38,8 +38,7 @@ change-requires c κs =
     let o = c .before .before .before .before .before .before .before in
     let a = o .args in
     let l = c .before .before .before .loop in
-    let here = c .before .before .loop-test .taken in
-    (
+    let here = c .before .before .loop-test .taken in (
       (o .pre .1 .0 (l .k) here, o .pre .0),
       each-room (a .page .now) (a .at) (λ k. changeLine (a .n) (edge (a .n) (a .graph .now)) (getD (a .repair .now) k 0)) (length (a .repair .now)) (o .pre .1 .1) (l .k) here (l .inv .2),
     )
