@@ -5,3 +5,4 @@ pub mod Spelling
 pub mod Changing
 pub mod Drawn
 pub mod Mending
+pub mod Bounds
