@@ -6,3 +6,5 @@ pub mod Changing
 pub mod Drawn
 pub mod Mending
 pub mod Bounds
+pub mod Trees
+pub mod Mended

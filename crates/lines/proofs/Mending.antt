@@ -79,13 +79,15 @@ module _ (n x : ℕ) (pair : isPair n x ≡ true) where
           insert-member z (pairOf n (x / n) (x % n)) r ∙ ap (λ p. eqb z p || member z r) pair-number ∙
           or-comm (eqb z x) (member z r) ∙ ap (λ t. member z r || t) (sym (none (eqb z x))) ∙ sym (member-append z r (x ∷ []))
 
-module _ (n : ℕ) (e : ℕ → ℕ → Bool) (repair : List ℕ) (up : ascending repair ≡ true) (pairs : all (isPair n) repair ≡ true) where
-  pub listed-pair : (k : ℕ) → k < length repair → isPair n (getD repair k 0) ≡ true
+-- every listed number is a pair's
+module _ (n : ℕ) (repair : List ℕ) (pairs : all (isPair n) repair ≡ true) where
+  listed-pair : (k : ℕ) → k < length repair → isPair n (getD repair k 0) ≡ true
   listed-pair k h = all-at (isPair n) (getD repair k 0) repair pairs (getD-member repair k h)
 
   pub listed-inside : (k : ℕ) → k < length repair → getD repair k 0 < n * n
   listed-inside k h = pair-inside n (getD repair k 0) (listed-pair k h)
 
+module _ (n : ℕ) (e : ℕ → ℕ → Bool) (repair : List ℕ) (up : ascending repair ≡ true) (pairs : all (isPair n) repair ≡ true) where
   pub mend-start : drawnOf n e ≡ drawnOf n (toggled n e (take 0 repair))
   unfolding toggled member
   mend-start = ap (drawnOf n) (fun-ext (λ i. fun-ext (λ j. sym (toggled-stays n e [] i j refl))))
@@ -97,7 +99,7 @@ module _ (n : ℕ) (e : ℕ → ℕ → Bool) (repair : List ℕ) (up : ascendin
       after ≡ drawnOf n (toggled n e (take (k + 1) repair))
   mend-more k {now} {after} h so-far step =
       let x : ℕ = getD repair k 0 in
-      let pair = listed-pair k h in
+      let pair = listed-pair n repair pairs k h in
       let two = pair-two n x pair in
       let before : ℕ → ℕ → Bool = toggled n e (take k repair) in
       step ∙ ap (λ g. turned (turned g x) (x % n * n + x / n)) so-far ∙

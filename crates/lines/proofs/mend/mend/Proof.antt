@@ -39,7 +39,7 @@ toggle-requires c κs =
     let o = c .before .before .before .before .before .before in
     let a = o .args in
     let l = c .before .before .before .loop in (
-      listed-inside (a .n) (edge (a .n) (a .graph .now)) (a .repair .now) (o .pre .1 .1 .0) (o .pre .1 .1 .1) (l .k) (c .before .before .loop-test .taken),
+      listed-inside (a .n) (a .repair .now) (o .pre .1 .1 .1) (l .k) (c .before .before .loop-test .taken),
       ap length (l .inv .1) ∙ drawn-long (a .n) (toggled (a .n) (edge (a .n) (a .graph .now)) (take (l .k) (a .repair .now))),
     )
 
