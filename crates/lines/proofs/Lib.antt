@@ -8,3 +8,5 @@ pub mod Mending
 pub mod Bounds
 pub mod Trees
 pub mod Mended
+pub mod Searching
+pub mod Drawing

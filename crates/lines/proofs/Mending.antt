@@ -48,7 +48,7 @@ module _ (n x : ℕ) (pair : isPair n x ≡ true) where
   unfolding isPair
   pair-order = ltb-true (x / n) (x % n) (and-right (ltb x (n * n)) _ pair)
 
-  pair-two : Two n (x / n) (x % n)
+  pub pair-two : Two n (x / n) (x % n)
   pair-two =
       let at = row-column n x pair-inside in
       record { left = at .0; right = at .1; apart = λ e. omega (arith, pair-order) }

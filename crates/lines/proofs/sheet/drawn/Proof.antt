@@ -1,34 +1,34 @@
+-- `drawn` meets its contract: what is drawn passes the checks of the search. Assumes nothing.
+use mir.Syntax.{w16}
+use mir.ValLaws.{toZ-ofZ}
+use Rattle.lines.proofs.Drawing.{checked, drawn-paged}
 use borrow.Author.Needs.{needs}
 use Rattle.lines.proofs.sheet.drawn.Statement.{statement}
 use Rattle.lines.proofs.sheet.drawn.Tie as tie
-use Rattle.lines.proofs.sheet.drawn.Reads as reads
-use Rattle.lines.proofs.sheet.drawn.Lts as lts
-use Rattle.lines.proofs.sheet.searched.Reads as searched-reads
-use Rattle.scores.proofs.to_graph.Reads as to-graph-reads
 
--- src/sheet.rt:103:5
 to-graph-requires : tie.Need-to-graph-requires
 to-graph-requires c κs = search needs
 
--- src/sheet.rt:104:5
 searched-requires : tie.Need-searched-requires
-searched-requires c κs = ?
+searched-requires c κs =
+    let o = c .before .before .before .before .before .before .before .before .before .before .before .before .before in
+    let a = o .args in
+    (checked (a .n) (a .t) (a .scores .now) (a .graph .now) (a .prices .now) (o .pre .0) (toZ-ofZ w16 (a .t) (o .fits .t)) (c .before .before .before .before .before .before .before .to-graph .ensures), o .pre .1)
 
--- src/sheet.rt:91:1
 same-length : tie.Need-same-length
 same-length c = search needs
 
--- src/sheet.rt:91:1
 same-length-2 : tie.Need-same-length-2
 same-length-2 c = search needs
 
--- src/sheet.rt:91:1
 same-length-3 : tie.Need-same-length-3
 same-length-3 c = search needs
 
--- src/sheet.rt:91:1
 returns : tie.Need-returns
-returns c = ?
+returns c =
+    let o = c .before .before .before .before .before .before .before .before .before .before .before .before .before .before .before .before .before .before in
+    let a = o .args in
+    drawn-paged (a .n) (a .t) (a .scores .now) (a .graph .now) (a .prices .now) (o .pre .0) (toZ-ofZ w16 (a .t) (o .fits .t)) (c .before .before .before .before .before .before .before .before .before .before .before .before .to-graph .ensures) (c .before .before .before .before .searched .ensures)
 
 pub drawn-spec : {M : Type 1} → statement M
 drawn-spec =

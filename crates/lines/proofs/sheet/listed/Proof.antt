@@ -1,49 +1,53 @@
+-- `listed` meets its contract: the first scores, and the first entries of the graph and the prices, are lent on. Assumes nothing.
+use Prim.Native.Nat.{ℕ, _*_, _≤_}
+use native.Mathlib.Omega.{arith}
+use mathlib.Core.Path.{_≡_, _∙_, sym}
+use lib.ListN.{length, take, length-replicate}
+use lib.Seq.{length-take-le}
+use mir.Syntax.{w16}
+use mir.ValLaws.{toZ-ofZ}
+use Rattle.lines.proofs.Drawing.{half-told, squares-few, list-ready, list-paged}
 use borrow.Author.Needs.{needs}
 use Rattle.lines.proofs.sheet.listed.Statement.{statement}
 use Rattle.lines.proofs.sheet.listed.Tie as tie
-use Rattle.lines.proofs.sheet.listed.Reads as reads
-use Rattle.lines.proofs.sheet.listed.Lts as lts
-use Rattle.lines.proofs.sheet.drawn.Reads as drawn-reads
 
--- src/sheet.rt:116:19
 mul-entries : tie.Need-mul-entries
-mul-entries c = ?
+mul-entries c =
+    let small = squares-few (c .before .args .n) (c .before .pre .0 .0) in
+    record { fits = omega arith }
 
--- src/sheet.rt:117:18
 sub-pairs : tie.Need-sub-pairs
-sub-pairs c = ?
+sub-pairs c =     squares-few (c .before .args .n) (c .before .pre .0 .0) .0
 
--- src/sheet.rt:122:9
 slice-aggregate-drawn : tie.Need-slice-aggregate-drawn
-slice-aggregate-drawn c = ?
+slice-aggregate-drawn c =     sym (length-take-le _ _ (omega (arith, half-told (c .before .before .before .args .n), c .before .before .before .pre .0 .1)))
 
--- src/sheet.rt:123:9
 array-borrow-prefix-graph : tie.Need-array-borrow-prefix-graph
-array-borrow-prefix-graph c = ?
+array-borrow-prefix-graph c =     squares-few (c .before .before .before .args .n) (c .before .before .before .pre .0 .0) .1
 
--- src/sheet.rt:123:9
 slice-aggregate-drawn-2 : tie.Need-slice-aggregate-drawn-2
-slice-aggregate-drawn-2 c = ?
+slice-aggregate-drawn-2 c =     sym (length-take-le _ _ (omega (arith, squares-few (c .before .before .before .before .args .n) (c .before .before .before .before .pre .0 .0) .1, length-replicate {A = ℕ} 16384 0)))
 
--- src/sheet.rt:124:9
 array-borrow-prefix-prices : tie.Need-array-borrow-prefix-prices
-array-borrow-prefix-prices c = ?
+array-borrow-prefix-prices c =     squares-few (c .before .before .before .before .args .n) (c .before .before .before .before .pre .0 .0) .1
 
--- src/sheet.rt:124:9
 slice-aggregate-drawn-3 : tie.Need-slice-aggregate-drawn-3
-slice-aggregate-drawn-3 c = ?
+slice-aggregate-drawn-3 c =     sym (length-take-le _ _ (omega (arith, squares-few (c .before .before .before .before .before .args .n) (c .before .before .before .before .before .pre .0 .0) .1, length-replicate {A = ℕ} 16384 0)))
 
--- src/sheet.rt:118:5
 drawn-requires : tie.Need-drawn-requires
-drawn-requires c κs = ?
+drawn-requires c κs =
+    let o = c .before .before .before .before .before in
+    let a = o .args in
+    (list-ready (a .n) (a .list .now) (toZ-ofZ w16 (a .t) (o .fits .t)) (o .pre .0 .0) (o .pre .0 .1) _ _ (o .pre .1 .0 .0) (o .pre .1 .0 .1) (length-replicate {A = ℕ} 16384 0) (length-replicate {A = ℕ} 16384 0), o .pre .1 .1)
 
--- src/sheet.rt:108:1
 same-length : tie.Need-same-length
 same-length c = search needs
 
--- src/sheet.rt:108:1
 returns : tie.Need-returns
-returns c = ?
+returns c =
+    let o = c .before .before .before .before .before .before .before .before .before .before in
+    let a = o .args in
+    list-paged (a .n) (a .list .now) (toZ-ofZ w16 (a .t) (o .fits .t)) (o .pre .0 .0) (o .pre .0 .1) (c .before .before .before .before .drawn .ensures)
 
 pub listed-spec : {M : Type 1} → statement M
 listed-spec =
