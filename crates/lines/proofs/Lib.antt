@@ -10,3 +10,5 @@ pub mod Trees
 pub mod Mended
 pub mod Searching
 pub mod Drawing
+pub mod Taking
+pub mod Answers

@@ -41,7 +41,14 @@ fn trees(page: &mut [u8], at: usize, n: usize, graph: &[u8]) -> usize
 }
 
 // The first lines, up to those of the changed pairs.
-fn edited(page: &mut [u8], n: usize, graph: &[u8], repair: &[u16], cost: usize, steps: usize) -> usize
+fn edited(
+    page: &mut [u8],
+    n: usize,
+    graph: &[u8],
+    repair: &[u16],
+    cost: usize,
+    steps: usize,
+) -> usize
     requires { ⌜ length (now graph) ≡ n * n ⌝ }
     requires { ⌜ all (isPair n) (now repair) ≡ true ⌝ }
     requires { ⌜ 0 + length ((verticesLine n ++ answerLine cost (length (now repair)) steps) ++ changeLines n (edge n (now graph)) (now repair)) ≤ length (now page) ⌝ }
@@ -52,7 +59,14 @@ fn edited(page: &mut [u8], n: usize, graph: &[u8], repair: &[u16], cost: usize, 
 }
 
 // All lines of a repair.
-fn mended(page: &mut [u8], n: usize, graph: &mut [u8], repair: &[u16], cost: usize, steps: usize) -> usize
+fn mended(
+    page: &mut [u8],
+    n: usize,
+    graph: &mut [u8],
+    repair: &[u16],
+    cost: usize,
+    steps: usize,
+) -> usize
     requires { ⌜ (n ≤ 128) × (now graph ≡ drawnOf n (edge n (now graph))) × IsGraph n (edge n (now graph)) ⌝ }
     requires { ⌜ (ascending (now repair) ≡ true) × (all (isPair n) (now repair) ≡ true) × Clean n (toggled n (edge n (now graph)) (now repair)) ⌝ }
     requires { ⌜ 0 + length ((verticesLine n ++ answerLine cost (length (now repair)) steps) ++ changeLines n (edge n (now graph)) (now repair) ++ treeLines n (toggled n (edge n (now graph)) (now repair))) ≤ length (now page) ⌝ }
@@ -76,7 +90,14 @@ fn searched(page: &mut [u8], n: usize, graph: &mut [u8], prices: &[u16]) -> usiz
             price,
             pairs,
             steps,
-        } => mended(page, n, graph, &list[..pairs], price as usize, steps as usize),
+        } => mended(
+            page,
+            n,
+            graph,
+            &list[..pairs],
+            price as usize,
+            steps as usize,
+        ),
         search::Answer::Stopped { steps } => text::one(page, 0, b"answer 9 steps ", steps as usize),
         search::Answer::Nothing { steps: _ } => 0,
         search::Answer::Refused {
@@ -145,7 +166,16 @@ fn refused(page: &mut [u8], answer: Reading) -> usize
             b" ",
             column,
         ),
-        Reading::Sheet { p: _, n: _, t: _ } => text::three(page, 0, b"answer ", 0, b" place ", 0, b" ", 0),
+        Reading::Sheet { p: _, n: _, t: _ } => text::three(
+            page,
+            0,
+            b"answer ",
+            0,
+            b" place ",
+            0,
+            b" ",
+            0,
+        ),
     }
 }
 

@@ -18,9 +18,13 @@ head-requires c κs =
 changes-requires : tie.Need-changes-requires
 changes-requires c κs =
     let o = c .before .before .before .before .before .before .before .before in
-    let a = o .args in
-    (o .pre .0, (listed-inside (a .n) (a .repair .now) (o .pre .1 .0),
-    then-room (a .page .now) 0 (verticesLine (a .n) ++ answerLine (a .cost) (length (a .repair .now)) (a .steps)) (changeLines (a .n) (edge (a .n) (a .graph .now)) (a .repair .now)) (o .pre .1 .1) (c .before .before .before .head .ensures)))
+    let a = o .args in (
+      o .pre .0,
+      (
+        listed-inside (a .n) (a .repair .now) (o .pre .1 .0),
+        then-room (a .page .now) 0 (verticesLine (a .n) ++ answerLine (a .cost) (length (a .repair .now)) (a .steps)) (changeLines (a .n) (edge (a .n) (a .graph .now)) (a .repair .now)) (o .pre .1 .1) (c .before .before .before .head .ensures),
+      ),
+    )
 
 same-length : tie.Need-same-length
 same-length c = search needs

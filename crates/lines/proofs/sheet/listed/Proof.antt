@@ -17,22 +17,22 @@ mul-entries c =
     record { fits = omega arith }
 
 sub-pairs : tie.Need-sub-pairs
-sub-pairs c =     squares-few (c .before .args .n) (c .before .pre .0 .0) .0
+sub-pairs c = squares-few (c .before .args .n) (c .before .pre .0 .0) .0
 
 slice-aggregate-drawn : tie.Need-slice-aggregate-drawn
-slice-aggregate-drawn c =     sym (length-take-le _ _ (omega (arith, half-told (c .before .before .before .args .n), c .before .before .before .pre .0 .1)))
+slice-aggregate-drawn c = sym (length-take-le _ _ (omega (arith, half-told (c .before .before .before .args .n), c .before .before .before .pre .0 .1)))
 
 array-borrow-prefix-graph : tie.Need-array-borrow-prefix-graph
-array-borrow-prefix-graph c =     squares-few (c .before .before .before .args .n) (c .before .before .before .pre .0 .0) .1
+array-borrow-prefix-graph c = squares-few (c .before .before .before .args .n) (c .before .before .before .pre .0 .0) .1
 
 slice-aggregate-drawn-2 : tie.Need-slice-aggregate-drawn-2
-slice-aggregate-drawn-2 c =     sym (length-take-le _ _ (omega (arith, squares-few (c .before .before .before .before .args .n) (c .before .before .before .before .pre .0 .0) .1, length-replicate {A = ℕ} 16384 0)))
+slice-aggregate-drawn-2 c = sym (length-take-le _ _ (omega (arith, squares-few (c .before .before .before .before .args .n) (c .before .before .before .before .pre .0 .0) .1, length-replicate {A = ℕ} 16384 0)))
 
 array-borrow-prefix-prices : tie.Need-array-borrow-prefix-prices
-array-borrow-prefix-prices c =     squares-few (c .before .before .before .before .args .n) (c .before .before .before .before .pre .0 .0) .1
+array-borrow-prefix-prices c = squares-few (c .before .before .before .before .args .n) (c .before .before .before .before .pre .0 .0) .1
 
 slice-aggregate-drawn-3 : tie.Need-slice-aggregate-drawn-3
-slice-aggregate-drawn-3 c =     sym (length-take-le _ _ (omega (arith, squares-few (c .before .before .before .before .before .args .n) (c .before .before .before .before .before .pre .0 .0) .1, length-replicate {A = ℕ} 16384 0)))
+slice-aggregate-drawn-3 c = sym (length-take-le _ _ (omega (arith, squares-few (c .before .before .before .before .before .args .n) (c .before .before .before .before .before .pre .0 .0) .1, length-replicate {A = ℕ} 16384 0)))
 
 drawn-requires : tie.Need-drawn-requires
 drawn-requires c κs =

@@ -17,9 +17,13 @@ use Rattle.lines.proofs.sheet.mended.Tie as tie
 edited-requires : tie.Need-edited-requires
 edited-requires c κs =
     let o = c .before .before .before .before .before in
-    let a = o .args in
-    (ap length (o .pre .0 .1) ∙ drawn-long (a .n) (edge (a .n) (a .graph .now)), (o .pre .1 .0 .1,
-    first-room (a .page .now) 0 ((verticesLine (a .n) ++ answerLine (a .cost) (length (a .repair .now)) (a .steps)) ++ changeLines (a .n) (edge (a .n) (a .graph .now)) (a .repair .now)) (treeLines (a .n) (toggled (a .n) (edge (a .n) (a .graph .now)) (a .repair .now))) (o .pre .1 .1)))
+    let a = o .args in (
+      ap length (o .pre .0 .1) ∙ drawn-long (a .n) (edge (a .n) (a .graph .now)),
+      (
+        o .pre .1 .0 .1,
+        first-room (a .page .now) 0 ((verticesLine (a .n) ++ answerLine (a .cost) (length (a .repair .now)) (a .steps)) ++ changeLines (a .n) (edge (a .n) (a .graph .now)) (a .repair .now)) (treeLines (a .n) (toggled (a .n) (edge (a .n) (a .graph .now)) (a .repair .now))) (o .pre .1 .1),
+      ),
+    )
 
 mend-requires : tie.Need-mend-requires
 mend-requires c κs =
@@ -30,13 +34,12 @@ trees-requires : tie.Need-trees-requires
 trees-requires c κs =
     let o = c .before .before .before .before .before .before .before .before .before .before .before .before .before .before in
     let a = o .args in
-    let same = same-edges (a .n) (edge (a .n) (a .graph .now)) (a .repair .now) (o .pre .0 .2) (c .before .before .before .before .mend .ensures) in
-    (
+    let same = same-edges (a .n) (edge (a .n) (a .graph .now)) (a .repair .now) (o .pre .0 .2) (c .before .before .before .before .mend .ensures) in (
       (o .pre .0 .0, mended-long (a .n) (edge (a .n) (a .graph .now)) (a .repair .now) (o .pre .0 .2) (c .before .before .before .before .mend .ensures), mended-fine (a .n) (edge (a .n) (a .graph .now)) (a .repair .now) (o .pre .0 .2) (c .before .before .before .before .mend .ensures)),
       (
         subst (Clean (a .n)) (sym same) (o .pre .1 .0 .2),
         room-as (c .before .before .before .before .before .before .before .before .edited .result) (ap (treeLines (a .n)) same)
-        (then-room (a .page .now) 0 ((verticesLine (a .n) ++ answerLine (a .cost) (length (a .repair .now)) (a .steps)) ++ changeLines (a .n) (edge (a .n) (a .graph .now)) (a .repair .now)) (treeLines (a .n) (toggled (a .n) (edge (a .n) (a .graph .now)) (a .repair .now))) (o .pre .1 .1) (c .before .before .before .before .before .before .before .before .edited .ensures)),
+            (then-room (a .page .now) 0 ((verticesLine (a .n) ++ answerLine (a .cost) (length (a .repair .now)) (a .steps)) ++ changeLines (a .n) (edge (a .n) (a .graph .now)) (a .repair .now)) (treeLines (a .n) (toggled (a .n) (edge (a .n) (a .graph .now)) (a .repair .now))) (o .pre .1 .1) (c .before .before .before .before .before .before .before .before .edited .ensures)),
       ),
     )
 

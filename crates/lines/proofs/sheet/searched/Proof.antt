@@ -46,8 +46,7 @@ mended-requires c κs =
     let o = c .before .before .before .before .before .before .before .before .before .before .before .before .before in
     let a = o .args in
     let room = length-replicate {A = ℕ} 8128 0 in
-    let best = repaired (a .n) (a .graph .now) (a .prices .now) _ (o .pre .0) room (c .before .before .before .before .before .before .before .pruned .ensures) (c .before .before .before .before .answer .given .1) in
-    (
+    let best = repaired (a .n) (a .graph .now) (a .prices .now) _ (o .pre .0) room (c .before .before .before .before .before .before .before .pruned .ensures) (c .before .before .before .before .answer .given .1) in (
       graph-right (a .n) (a .graph .now) (a .prices .now) _ (o .pre .0) room best,
       (
         list-right (a .n) (a .graph .now) (a .prices .now) _ (o .pre .0) room best,
