@@ -12,3 +12,4 @@ pub mod Searching
 pub mod Drawing
 pub mod Taking
 pub mod Answers
+pub mod Determined
