@@ -6,7 +6,7 @@ use mathlib.Core.Bool.{Bool, true, false, not, _&&_, _||_}
 use mathlib.Core.List.{List, []}
 use Prim.Native.Nat.{ℕ, _+_, _*_, _/_, _%_, _^_, _≤_, _<_}
 use native.Mathlib.Omega.{arith}
-use lib.ListN.{getD, set, length-set, replicate, getD-replicate, List·getD-eq-default}
+use lib.ListN.{length, getD, set, length-set, replicate, getD-replicate, List·getD-eq-default}
 use lib.Seq.{getD-set-same, getD-set-other}
 use lib.Dec.{eqb}
 use borrow.Author.Tests.{eq-eqb, ne-eqb, eqb-true}
@@ -116,36 +116,51 @@ module _ (x y : ℕ) (hx : x < 128) (hy : y < 128) (words : List ℕ) where
       let q = eqb-true j y (and-right (eqb i x) (eqb j y) h) in
       d (omega arith))
 
-  -- the word that holds the entry at row x, column y is stored with its bit toggled
+  -- the word that holds the entry at row x, column y is stored with its bit changed by f
+  pub stored-entry :
+      (f : Bool → Bool → Bool) → ((b : Bool) → f false b ≡ b) → (r : ℕ) → length words ≡ 256 →
+      ((j : ℕ) → bit r j ≡ f (eqb j (y % 64)) (bit (getD words (2 * x + y / 64) 0) j)) → (i j : ℕ) →
+      wordEdge (set words (2 * x + y / 64) r) i j ≡ f (eqb i x && eqb j y) (wordEdge words i j)
+  stored-entry f stays r many changed i j = edges (below i 128) (below j 128)
+    where
+      inner :
+          j < 128 → (2 * i + j / 64 ≡ 2 * x + y / 64) ⊎ (2 * i + j / 64 ≢ 2 * x + y / 64) →
+          bit (getD (set words (2 * x + y / 64) r) (2 * i + j / 64) 0) (j % 64) ≡
+          f (eqb i x && eqb j y) (bit (getD words (2 * i + j / 64) 0) (j % 64))
+      inner hj (inl e) =
+          rw (e, getD-set-same words (2 * x + y / 64) r 0 (omega arith), ← same-entry i j hj e) (changed (j % 64))
+      inner hj (inr d) =
+          rw (getD-set-other words (2 * x + y / 64) (2 * i + j / 64) r 0 d, other-entry i j d)
+          (sym (stays (bit (getD words (2 * i + j / 64) 0) (j % 64))))
+
+      off-row : 128 ≤ i → (eqb i x && eqb j y) ≡ false
+      off-row h = and-off-left (eqb j y) (ne-eqb i x (λ e. omega arith))
+
+      off-column : 128 ≤ j → (eqb i x && eqb j y) ≡ false
+      off-column h = and-off-right (eqb i x) (ne-eqb j y (λ e. omega arith))
+
+      edges :
+          (i < 128) ⊎ (128 ≤ i) → (j < 128) ⊎ (128 ≤ j) →
+          wordEdge (set words (2 * x + y / 64) r) i j ≡ f (eqb i x && eqb j y) (wordEdge words i j)
+      edges (inl hi) (inl hj) =
+          rw (word-bits (set words (2 * x + y / 64) r) hi hj, word-bits words hi hj)
+          (inner hj (equal (2 * i + j / 64) (2 * x + y / 64)))
+      edges (inr hi) w =
+          rw (off-row hi, word-row words j hi) (word-row (set words (2 * x + y / 64) r) j hi ∙ sym (stays false))
+      edges (inl hi) (inr hj) =
+          rw (off-column hj, word-column words i hj)
+          (word-column (set words (2 * x + y / 64) r) i hj ∙ sym (stays false))
+
+  -- with its bit toggled
   pub one-way :
       (r : ℕ) → AreWords words → r < 2 ^ 64 →
       ((j : ℕ) → bit r j ≡ flip (eqb j (y % 64)) (bit (getD words (2 * x + y / 64) 0) j)) →
       OneWay x y words (set words (2 * x + y / 64) r)
   one-way r W hr toggled =
-      record { shape = words-set (2 * x + y / 64) W (omega arith) hr; edges = λ i j. edges i j (below i 128) (below j 128) }
-    where
-      inner :
-          (i j : ℕ) → j < 128 → (2 * i + j / 64 ≡ 2 * x + y / 64) ⊎ (2 * i + j / 64 ≢ 2 * x + y / 64) →
-          bit (getD (set words (2 * x + y / 64) r) (2 * i + j / 64) 0) (j % 64) ≡
-          flip (eqb i x && eqb j y) (bit (getD words (2 * i + j / 64) 0) (j % 64))
-      inner i j hj (inl e) =
-          rw (e, getD-set-same words (2 * x + y / 64) r 0 (omega (arith, W .many)), ← same-entry i j hj e)
-          (toggled (j % 64))
-      inner i j hj (inr d) =
-          rw (getD-set-other words (2 * x + y / 64) (2 * i + j / 64) r 0 d, other-entry i j d) refl
-
-      edges :
-          (i j : ℕ) → (i < 128) ⊎ (128 ≤ i) → (j < 128) ⊎ (128 ≤ j) →
-          wordEdge (set words (2 * x + y / 64) r) i j ≡ flip (eqb i x && eqb j y) (wordEdge words i j)
-      edges i j (inl hi) (inl hj) =
-          rw (word-bits (set words (2 * x + y / 64) r) hi hj, word-bits words hi hj)
-          (inner i j hj (equal (2 * i + j / 64) (2 * x + y / 64)))
-      edges i j (inr hi) w =
-          let off : (eqb i x && eqb j y) ≡ false = and-off-left (eqb j y) (ne-eqb i x (λ e. omega arith)) in
-          rw (off, word-row words j hi) (word-row (set words (2 * x + y / 64) r) j hi)
-      edges i j (inl hi) (inr hj) =
-          let off : (eqb i x && eqb j y) ≡ false = and-off-right (eqb i x) (ne-eqb j y (λ e. omega arith)) in
-          rw (off, word-column words i hj) (word-column (set words (2 * x + y / 64) r) i hj)
+      record {
+        shape = words-set (2 * x + y / 64) W (omega arith) hr;
+        edges = stored-entry flip (λ b. refl) r (W .many) toggled;
+      }
 
 -- two toggles of different bits, and two of the same
 flip-either : (p q b : Bool) → (p ≡ true → q ≡ true → ⊥) → flip q (flip p b) ≡ flip (p || q) b

@@ -43,7 +43,7 @@ loose-priced i j p apart loose h =
     go (inl k) = (leb-true 1 p (and-left (leb 1 p) _ k), leb-true p 10000 (and-right (leb 1 p) _ k))
     go (inr k) = never k loose
 
-some-vertex : (n x : ℕ) → x < n * n → 0 < n
+pub some-vertex : (n x : ℕ) → x < n * n → 0 < n
 some-vertex n x l = go (eq-zero-or-pos n)
   where
     go : (n ≡ 0) ⊎ (0 < n) → 0 < n

@@ -1,35 +1,33 @@
 -- A call's checks, one after another: a row that holds is the answer, one that does not is passed over. Assumes nothing.
-use mathlib.Core.Path.{_≡_, refl, sym, _∙_, ap}
+use mathlib.Core.Path.{_≡_, sym, _∙_}
 use mathlib.Core.Bool.{Bool, true, false}
 use mathlib.Core.List.{List, [], _∷_, _++_}
 use Prim.Native.Nat.{ℕ}
-use native.Mathlib.Omega.{arith}
 use Rattle.graph.specs.declared.Finding.{Finding}
 use Rattle.graph.specs.declared.Finding.the-variants.{Fine, Fault}
-use Rattle.graph.specs.Refusal.{row, orElse, firstOf}
-use Rattle.graph.proofs.Leading.{firstOf-leading, fault-not-fine}
+use Rattle.graph.specs.Refusal.{row, firstOf}
+use Rattle.graph.proofs.Leading.{append-nothing, fault-not-fine, firstOf-leading}
+use Rattle.graph.proofs.Refusals.{firstOf-next, firstOf-here, firstOf-single, row-holds, row-passes, row-fine}
 
 pub hit : {b : Bool} (number : ℕ) (xs : List Finding) → b ≡ true → Fault number 0 0 ≡ firstOf (row number b ∷ xs)
-unfolding row firstOf
-hit number xs p = sym (ap (λ b. firstOf (row number b ∷ xs)) p)
+hit {b} number xs p = sym (firstOf-here (row number b) xs (row-holds number p))
 
 pub pass : {b : Bool} (number : ℕ) (xs : List Finding) → b ≡ false → firstOf xs ≡ firstOf (row number b ∷ xs)
-unfolding row firstOf
-pass number xs p = sym (ap (λ b. firstOf (row number b ∷ xs)) p)
+pass {b} number xs p = sym (firstOf-next (row number b) xs (row-passes number p))
 
 pub done : Fine ≡ firstOf []
-unfolding firstOf
-done = refl
+done = sym (firstOf-leading .empty)
 
--- a row that is fine does not hold, and what is behind it is fine
+-- where nothing is found, the first check is fine, and what is behind it
+pub fine-first : (x : Finding) (xs : List Finding) → Fine ≡ firstOf (x ∷ xs) → (Fine ≡ x) × (Fine ≡ firstOf xs)
+fine-first x xs e =
+    let both = append-nothing firstOf-leading (x ∷ []) xs (sym e) in
+    (sym (both .0) ∙ firstOf-single x, sym (both .1))
+
 pub fine-out : (number : ℕ) (b : Bool) (xs : List Finding) → Fine ≡ firstOf (row number b ∷ xs) → (b ≡ false) × (Fine ≡ firstOf xs)
-unfolding row firstOf
-fine-out number true xs e = absurd (let z : _≡_ {A = ℕ} 0 1 = cc in omega arith)
-fine-out number false xs e = (refl, e)
-
-pub fine-first : (x y : Finding) → Fine ≡ orElse x y → (Fine ≡ x) × (Fine ≡ y)
-fine-first Fine y e = (refl, e)
-fine-first (Fault number i j) y e = absurd (let z : _≡_ {A = ℕ} 0 1 = cc in omega arith)
+fine-out number b xs e =
+    let both = fine-first (row number b) xs e in
+    (row-fine number b (sym (both .0)), both .1)
 
 -- the first checks of a call decide where they find something, else the others
 pub decided : {x : Finding} {number i j : ℕ} (xs ys : List Finding) → x ≡ Fault number i j → x ≡ firstOf xs → x ≡ firstOf (xs ++ ys)

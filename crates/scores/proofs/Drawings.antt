@@ -1,6 +1,6 @@
 -- The answers of `to_graph`, one lemma for each return. Assumes nothing.
 use mathlib.Core.Path.{_≡_, refl, sym, _∙_, ap}
-use mathlib.Core.Bool.{true, false, not}
+use mathlib.Core.Bool.{true, not}
 use mathlib.Core.List.{List, [], _∷_, _++_}
 use Prim.Native.Nat.{ℕ, _*_, _≤_, _<_}
 use native.Mathlib.Omega.{arith}
@@ -51,12 +51,12 @@ module _ (n : ℕ) (t : ℤ) (scores : List ℤ) (graph prices : List ℕ) where
   pub promised :
       Fine ≡ firstOf (checks n t scores graph prices) →
       (n ≤ 128) × (length scores ≡ half n) × (onScale t ≡ true) × (Fine ≡ scoresOff n scores)
-  unfolding checks tooMany wrongCount thresholdOff firstOf
+  unfolding checks tooMany wrongCount thresholdOff
   promised e =
       let a = fine-out 1 (ltb 128 n) (wrongCount scores n ∷ (offs ++ rooms)) e in
       let b = fine-out 2 (not (eqb (length scores) (half n))) (offs ++ rooms) (a .1) in
       let d = fine-out 5 (not (onScale t)) (scoresOff n scores ∷ rooms) (b .1) in
-      let s = fine-first (scoresOff n scores) (firstOf rooms) (d .1) in
+      let s = fine-first (scoresOff n scores) rooms (d .1) in
       let ok = counted n scores (done ∙ pass 2 [] (b .0) ∙ pass 1 (wrongCount scores n ∷ []) (a .0)) in
       (ok .0, ok .1, not-false (onScale t) (d .0), s .0)
 

@@ -1,17 +1,16 @@
 -- The figures of scores and sheets that document 01 marks *, as rows of one table, and the one claim that every row holds,
 -- by computation. Assumes nothing.
 use mathlib.Core.Path.{_≡_, refl}
-use mathlib.Core.Bool.{Bool, true, false, not, _&&_}
+use mathlib.Core.Bool.{Bool, true, false, _&&_}
 use mathlib.Core.List.{List, [], _∷_}
 use Prim.Native.Nat.{ℕ}
 use lib.Dec.{eqb}
 use lib.IntN.{ℤ, pos, negsuc}
 use lib.Signed.{leZ}
-use Rattle.bits.specs.Choice.{pick}
 use Rattle.graph.specs.declared.Finding.{Finding}
 use Rattle.graph.specs.declared.Finding.the-variants.{Fine, Fault}
 use Rattle.graph.specs.Refusal.{firstOf}
-use Rattle.scores.specs.Scale.{edgeOf, distance, priceOf, half, earlier, place, spot, scoreOf, thresholdOff, scoreOff, scoresOff, edgeByte, priceEntry}
+use Rattle.scores.specs.Scale.{distance, priceOf, earlier, place, spot, scoreOf, thresholdOff, scoreOff, scoresOff, edgeByte, priceEntry}
 use Rattle.scores.specs.Sheet.{lowFirst, number, signedBytes, scoreBytes, trailer, sheetBytes, field, notesOf, sizeOf, thresholdOf, scoreAt, scoresOf}
 use Rattle.scores.specs.Drawing.{wrongCount, checks}
 use Rattle.scores.specs.Reader.{wrongLayout, layoutFault, sheetFault, shown}
@@ -57,7 +56,7 @@ holds (sheet bytes notes scores n t) =
     && eqb (sizeOf bytes) n
     && sameZ (thresholdOf bytes) t
 
-pub every : List Figure → Bool
+unfoldable pub every : List Figure → Bool
 every [] = true
 every (f ∷ fs) = holds f && every fs
 

@@ -2,9 +2,9 @@
 use mathlib.Core.Path.{_≡_, ap, _∙_}
 use mathlib.Core.Logic.{_⊎_, inl, inr}
 use mathlib.Core.Bool.{Bool, true, false}
-use Prim.Native.Nat.{ℕ, zero, suc, _+_, _≤_, _<_}
+use Prim.Native.Nat.{ℕ, _+_, _≤_, _<_}
 use native.Mathlib.Omega.{arith}
-use Rattle.bits.proofs.Truth.{below, never}
+use Rattle.bits.proofs.Truth.{below}
 use Rattle.scores.specs.Inner.{FirstOff}
 
 module _ (on : ℕ → Bool) where

@@ -1,17 +1,15 @@
 -- Numbers on the scale: they fit their type, and two of them are at most 10,000 apart. Assumes nothing.
-use mathlib.Core.Path.{_≡_, refl, sym, _∙_, ap}
+use mathlib.Core.Path.{_≡_}
 use mathlib.Core.Logic.{_⊎_, inl, inr}
-use mathlib.Core.Bool.{Bool, true, false, _&&_}
-use Prim.Native.Nat.{ℕ, _+_, _-_, _≤_, _<_}
+use mathlib.Core.Bool.{true, false}
+use Prim.Native.Nat.{_-_, _≤_}
 use native.Mathlib.Omega.{arith}
 use lib.Dec.{eqb, leb}
 use lib.IntN.{ℤ, pos, negsuc}
-use lib.Signed.{leZ}
 use mir.Syntax.{w16}
 use mir.Val.{SFits}
-use borrow.Author.Tests.{leb-true, eqb-true, eqb-false}
-use Rattle.bits.specs.Choice.{pick}
-use Rattle.bits.proofs.Truth.{and-left, and-right, which, pick-true, pick-false}
+use borrow.Author.Tests.{leb-true, eqb-false}
+use Rattle.bits.proofs.Truth.{and-left, which, pick-true, pick-false}
 use Rattle.scores.specs.Scale.{onScale, distance, priceOf}
 use Rattle.scores.specs.Inner.{lift}
 use Rattle.scores.proofs.Complement.{distance-lift}

@@ -1,25 +1,24 @@
 -- S3: what `to_graph` writes passes the checks 3, 4 and 6, and no pair is fixed. Assumes nothing.
-use mathlib.Core.Path.{_≡_, refl, sym, _∙_, ap}
+use mathlib.Core.Path.{_≡_, sym, _∙_, ap, ap₂}
 use mathlib.Core.Logic.{_⊎_, inl, inr, _≢_}
-use mathlib.Core.Bool.{Bool, true, false, not, _&&_, _||_}
-use mathlib.Core.List.{List, [], _∷_, _++_}
-use Prim.Native.Nat.{ℕ, zero, suc, _+_, _*_, _≤_, _<_}
+use mathlib.Core.Bool.{Bool, true, false}
+use mathlib.Core.List.{List, _++_}
+use Prim.Native.Nat.{ℕ, _+_, _*_, _≤_, _<_}
 use native.Mathlib.Omega.{arith}
 use lib.ListN.{length, getD, drop, List·getD-append}
 use lib.IntN.{ℤ}
-use lib.Dec.{ltb, eqb}
-use borrow.Author.Tests.{le-leb, eq-eqb, ne-eqb, eqb-true, eqb-false}
+use lib.Dec.{eqb}
+use borrow.Author.Tests.{eq-eqb, eqb-false, eqb-true, le-leb, ne-eqb}
 use Rattle.bits.specs.Choice.{pick}
 use Rattle.bits.proofs.Truth.{which, equal, and-in, or-left, pick-true, pick-false}
-use Rattle.graph.specs.declared.Finding.{Finding}
 use Rattle.graph.specs.declared.Finding.the-variants.{Fine, Fault}
 use Rattle.graph.specs.Check.{entry, entries}
 use Rattle.graph.specs.Price as rule
 use Rattle.graph.proofs.CheckLaws.{inside}
-use Rattle.graph.proofs.Reading.{small-good, entry-fine, fine-entries}
 use Rattle.graph.proofs.Grid.{fine-grid}
-use Rattle.scores.specs.Scale.{onScale, edgeOf, priceOf, spot, place, scoreOf, scoreOff, scoresOff, thresholdOff, edgeByte, priceEntry, square}
-use Rattle.scores.specs.Drawing.{wrongCount, checks, Promise}
+use Rattle.graph.proofs.Reading.{small-good, entry-fine, fine-entries}
+use Rattle.scores.specs.Scale.{onScale, edgeOf, priceOf, scoreOf, scoresOff, edgeByte, priceEntry, square}
+use Rattle.scores.specs.Drawing.{checks, Promise}
 use Rattle.scores.proofs.ScoreFaults.{score-mirror, scores-on}
 use Rattle.scores.proofs.Drawings.{promised}
 use Rattle.scores.proofs.Squares.{length-square, square-at}
@@ -88,16 +87,19 @@ module _ (n : ℕ) (t : ℤ) (scores : List ℤ) where
         let e = price-at i j hi hj in
         (omega arith, omega arith)
 
+    edge-mirrors : (i j : ℕ) → edgeByte n t scores i j ≡ edgeByte n t scores j i
+    edge-mirrors i j = go (equal i j)
+      where
+        go : (i ≡ j) ⊎ (i ≢ j) → edgeByte n t scores i j ≡ edgeByte n t scores j i
+        go (inl e) = ap₂ (edgeByte n t scores) e (sym e)
+        go (inr apart) = edge-mirror i j apart
+
     edge-fine : (i j : ℕ) → i < n → j < n → entry n graph′ i j ≡ Fine
     edge-fine i j hi hj =
         entry-fine n graph′ i j
-        (small-good n graph′ i j (omega (arith, edge-at i j hi hj, edge-small i j))
-        (λ e. edge-at i j hi hj ∙ sym (edge-diagonal n t scores i j e)))
-        (go (equal i j))
-      where
-        go : (i ≡ j) ⊎ (i ≢ j) → getD graph′ (i * n + j) 0 ≡ getD graph′ (j * n + i) 0
-        go (inl e) = cc
-        go (inr apart) = edge-at i j hi hj ∙ edge-mirror i j apart ∙ sym (edge-at j i hj hi)
+        (small-good n graph′ i j (omega (arith, edge-at i j hi hj, edge-small i j)) (λ e.
+        edge-at i j hi hj ∙ sym (edge-diagonal n t scores i j e)))
+        (edge-at i j hi hj ∙ edge-mirrors i j ∙ sym (edge-at j i hj hi))
 
     -- the checks 3 and 4
     pub graph-passes : entries n graph′ ≡ Fine
@@ -112,7 +114,8 @@ module _ (n : ℕ) (t : ℤ) (scores : List ℤ) where
             let e = eqb-true i j p in
             let zero-price : getD prices′ (i * n + j) 0 ≡ 0 = price-at i j hi hj ∙ sym (price-diagonal n t scores i j e) in
             let mirror : getD prices′ (i * n + j) 0 ≡ getD prices′ (j * n + i) 0 = cc in
-            pick-true Fine (Fault 6 i j) (and-in (pick-true _ _ p ∙ eq-eqb _ _ zero-price) (eq-eqb _ _ mirror))
+            (pick-true Fine (Fault 6 i j)
+            (and-in (pick-true _ _ p ∙ eq-eqb _ _ zero-price) (eq-eqb _ _ mirror)))
         go (inr p) =
             let apart : i ≢ j = eqb-false i j p in
             let b = prices-free i j apart hi hj in

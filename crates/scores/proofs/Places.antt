@@ -1,6 +1,6 @@
 -- The order of the pairs: how many stand before a row in closed form, that places rise with the order, and that there are
 -- n(n-1)/2. By induction on the row. Assumes nothing.
-use mathlib.Core.Path.{_≡_, refl, sym, _∙_, ap}
+use mathlib.Core.Path.{_≡_, sym, _∙_, ap}
 use mathlib.Core.Logic.{_⊎_, inl, inr}
 use Prim.Native.Nat.{ℕ, zero, suc, _+_, _*_, _-_, _/_, _≤_, _<_}
 use native.Mathlib.Nat.{suc-mul, mul-suc, zero-mul, mul-le-mul}

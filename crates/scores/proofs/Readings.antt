@@ -1,9 +1,8 @@
 -- The answers of `read` and `notes`, one lemma for each return. Assumes nothing.
 use mathlib.Core.Path.{_≡_, refl, sym, _∙_, ap}
-use mathlib.Core.List.{List, [], _∷_, _++_}
+use mathlib.Core.List.{List, [], _∷_}
 use Prim.Native.Nat.{ℕ, _≤_, _<_}
-use native.Mathlib.Omega.{arith}
-use lib.ListN.{length, take, drop}
+use lib.ListN.{length, take}
 use lib.Seq.{paste}
 use lib.IntN.{ℤ}
 use borrow.Author.Tests.{lt-ltb, le-ltb}
@@ -15,7 +14,7 @@ use Rattle.scores.specs.declared.Reading.the-variants.{Refused, Sheet}
 use Rattle.scores.specs.Scale.{half}
 use Rattle.scores.specs.Sheet.{notesOf, sizeOf, thresholdOf, scoresOf, scoreAt}
 use Rattle.scores.specs.Inner.{scoresIn}
-use Rattle.scores.specs.Reader.{noRoom, sheetFault, checks, Promise, Filled, ifFine, shown}
+use Rattle.scores.specs.Reader.{noRoom, sheetFault, checks, Promise, ifFine, shown}
 use Rattle.scores.proofs.Checking.{hit, pass, done, decided, left-over}
 use Rattle.scores.proofs.Squares.{length-each}
 use Rattle.scores.proofs.Pasting.{pasted}

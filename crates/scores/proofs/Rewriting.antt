@@ -3,7 +3,7 @@
 use mathlib.Core.Path.{_≡_, refl, sym, _∙_, ap, ap₂}
 use mathlib.Core.Bool.{true}
 use mathlib.Core.Logic.{_⊎_, inl, inr}
-use mathlib.Core.List.{List, [], _∷_, _++_, append-assoc}
+use mathlib.Core.List.{List, [], _∷_, _++_}
 use Prim.Native.Nat.{ℕ, _+_, _*_, _-_, _/_, _%_, _≤_, _<_}
 use native.Mathlib.Omega.{arith}
 use lib.ListN.{length, getD, take, drop, length-drop, take-append-drop}
@@ -15,7 +15,6 @@ use mir.ValLaws.{ofZ-toZ}
 use borrow.Author.Tests.{eq-eqb, le-ltb}
 use Rattle.bits.proofs.Truth.{below, not-off}
 use Rattle.graph.specs.declared.Finding.the-variants.{Fine}
-use Rattle.graph.specs.Each.{each}
 use Rattle.graph.specs.Refusal.{firstOf}
 use Rattle.graph.specs.Check.{tooMany}
 use Rattle.graph.proofs.Refusals.{firstOf-single}
@@ -164,8 +163,8 @@ module _ (sheet : List ℕ) (bytes : AreBytes sheet) (ok : Laid sheet) where
 
 -- the reader refused nothing
 unrefused-sheet : (sheet : List ℕ) (out : List ℤ) → Fine ≡ firstOf (reader.checks sheet out) → Fine ≡ reader.sheetFault sheet
-unfolding reader.checks firstOf
-unrefused-sheet sheet out e = fine-first (reader.sheetFault sheet) (firstOf (reader.noRoom out (sizeOf sheet) ∷ [])) e .0
+unfolding reader.checks
+unrefused-sheet sheet out e = fine-first (reader.sheetFault sheet) (reader.noRoom out (sizeOf sheet) ∷ []) e .0
 
 -- the writer takes what was read
 writes :

@@ -1,9 +1,9 @@
 -- S2: what is written reads back to the same p, n, t, scores and notes. The trailer's fields stand behind known parts, and
 -- the scores are read byte by byte. Assumes nothing.
-use mathlib.Core.Path.{_≡_, refl, sym, _∙_, ap, subst}
-use mathlib.Core.Bool.{true, false, not}
+use mathlib.Core.Path.{_≡_, refl, sym, _∙_, ap}
+use mathlib.Core.Bool.{true, not}
 use mathlib.Core.List.{List, [], _∷_, _++_, append-assoc, append-nil}
-use Prim.Native.Nat.{ℕ, _+_, _*_, _-_, _/_, _%_, _^_, _≤_, _<_}
+use Prim.Native.Nat.{ℕ, _+_, _*_, _-_, _≤_, _<_}
 use native.Mathlib.Omega.{arith}
 use lib.ListN.{length, getD, take, drop, length-append, List·getD-append}
 use lib.Seq.{paste, ext-getD, take-at, getD-append-add}
@@ -157,9 +157,9 @@ on-both n t scores e =
     (not-false (onScale t) (a .0), a .1 ∙ firstOf-single (scoresOff n scores))
 
 pub unrefused : (notes : List ℕ) (scores : List ℤ) (n : ℕ) (t : ℤ) (buf : List ℕ) → Fine ≡ firstOf (writer.checks notes scores n t buf) → Fine ≡ writer.writeFault notes scores n t
-unfolding writer.checks firstOf
+unfolding writer.checks
 unrefused notes scores n t buf e =
-    fine-first (writer.writeFault notes scores n t) (firstOf (tooShort buf (sheetLength (length notes) n) ∷ [])) e .0
+    fine-first (writer.writeFault notes scores n t) (tooShort buf (sheetLength (length notes) n) ∷ []) e .0
 
 -- what the writer promises, the reader and the notes give back
 pub write-read :

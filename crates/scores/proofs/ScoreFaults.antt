@@ -4,7 +4,7 @@ use mathlib.Core.Path.{_≡_, refl, sym, _∙_, ap}
 use mathlib.Core.Logic.{_⊎_, inl, inr, _≢_}
 use mathlib.Core.Bool.{Bool, true, false}
 use mathlib.Core.List.{List, [], _∷_}
-use Prim.Native.Nat.{ℕ, zero, suc, _≤_, _<_}
+use Prim.Native.Nat.{ℕ, _≤_, _<_}
 use native.Mathlib.Omega.{arith}
 use lib.ListN.{getD}
 use lib.IntN.{ℤ, pos}
@@ -16,12 +16,11 @@ use Rattle.graph.specs.declared.Finding.{Finding}
 use Rattle.graph.specs.declared.Finding.the-variants.{Fine, Fault}
 use Rattle.graph.specs.Each.{each, only}
 use Rattle.graph.specs.Refusal.{firstOf}
+use Rattle.graph.proofs.Leading.{each-nothing, nothing-each, firstOf-leading}
 use Rattle.graph.proofs.Refusals.{firstOf-single}
-use Rattle.graph.proofs.Leading.{firstOf-leading, each-nothing, nothing-each}
 use Rattle.graph.proofs.CheckLaws.{found-here}
 use Rattle.scores.specs.Scale.{onScale, half, place, spot, scoreOf, scoreOff, scoresOff}
 use Rattle.scores.specs.Inner.{FirstOff, FaultAt}
-use Rattle.scores.proofs.Checking.{fine-first}
 use Rattle.scores.proofs.Squares.{each-at}
 use Rattle.scores.proofs.Places.{place-onto, place-below, place-row, place-later-column, place-later-row}
 
@@ -107,12 +106,12 @@ module _ (n : ℕ) (scores : List ℤ) where
       let here : Fault 5 i j ≡ firstOf (cell i j) = loud-cell i j up (ap on e ∙ o .here h) in
       let row : Fault 5 i j ≡ firstOf (each n (cell i)) =
       found-here (cell i) n j (at .2)
-      (λ b hb. quiet-cell i b (λ u. o .before (place n i b) (omega (arith, place-later-column n u (omega arith) hb))))
+      ((λ b hb. quiet-cell i b (λ u. o .before (place n i b) (omega (arith, place-later-column n u (omega arith) hb)))))
       here refl in
       ap (λ (x : ℕ). Fault x i j) (at .0)
       ∙ found-here (λ a. each n (cell a)) n i (omega arith)
-      (λ a ha. each-nothing firstOf-leading n (cell a) (λ b hb. quiet-cell a b (λ u.
-      o .before (place n a b) (omega (arith, place-later-row n u hb i 0 ha, place-row n up (at .2))))))
+      ((λ a ha. each-nothing firstOf-leading n (cell a) (λ b hb. quiet-cell a b (λ u.
+      o .before (place n a b) (omega (arith, place-later-row n u hb i 0 ha, place-row n up (at .2)))))))
       row refl
 
 -- the same of scores that are listed from f

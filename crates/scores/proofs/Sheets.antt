@@ -1,14 +1,12 @@
 -- The checks of a sheet, one lemma for each return of the reader, and what a sheet is that they pass. Assumes nothing.
 use mathlib.Core.Path.{_≡_, refl, sym, _∙_, ap}
 use mathlib.Core.Bool.{Bool, true, false, not, _||_}
-use mathlib.Core.List.{List, [], _∷_, _++_}
+use mathlib.Core.List.{List, [], _∷_}
 use Prim.Native.Nat.{ℕ, _≤_, _<_}
-use native.Mathlib.Omega.{arith}
 use lib.ListN.{length}
 use lib.Dec.{ltb, eqb}
-use lib.IntN.{ℤ}
 use borrow.Author.Tests.{lt-ltb, le-ltb, ltb-false, eqb-true, not-true, not-false}
-use Rattle.bits.proofs.Truth.{which, not-in, not-off, or-left, or-off-left, or-off-right}
+use Rattle.bits.proofs.Truth.{not-in, not-off, or-left, or-off-left, or-off-right}
 use Rattle.graph.specs.declared.Finding.{Finding}
 use Rattle.graph.specs.declared.Finding.the-variants.{Fine, Fault}
 use Rattle.graph.specs.Refusal.{row, firstOf}
@@ -102,8 +100,8 @@ module _ (sheet : List ℕ) where
 
   -- what the reader would refuse for nothing but room: layout, threshold and scores are right
   pub sound : Fine ≡ sheetFault sheet → Laid × (onScale (thresholdOf sheet) ≡ true) × (Fine ≡ scoresOff (sizeOf sheet) (scoresOf sheet))
-  unfolding sheetFault firstOf thresholdOff
+  unfolding sheetFault thresholdOff
   sound e =
-      let a = fine-first (layoutFault sheet) (firstOf scales) e in
+      let a = fine-first (layoutFault sheet) scales e in
       let b = fine-out 5 (not (onScale (thresholdOf sheet))) (scoresOff (sizeOf sheet) (scoresOf sheet) ∷ []) (a .1) in
       (laid (a .0), not-false _ (b .0), b .1 ∙ firstOf-single _)

@@ -7,8 +7,6 @@ use lib.ListN.{length, take, drop, length-append}
 use lib.Seq.{paste}
 use lib.IntN.{ℤ}
 use lib.Dec.{ltb}
-use mir.Syntax.{w16}
-use mir.Val.{ofZ}
 use borrow.Author.Tests.{lt-ltb, le-ltb, ltb-false}
 use borrow.Rule.Slice.PartMut.{putMid}
 use Rattle.graph.specs.declared.Finding.{Finding}
@@ -24,7 +22,6 @@ use Rattle.scores.specs.Writer.{longNotes, writeFault, checks, Promise}
 use Rattle.scores.proofs.Checking.{hit, pass, done, fine-out, decided, left-over}
 use Rattle.scores.proofs.Drawings.{counted}
 use Rattle.scores.proofs.Places.{half-twice}
-use Rattle.scores.proofs.Fields.{length-low}
 use Rattle.scores.proofs.Pasting.{pasted}
 use Rattle.scores.proofs.Puts.{length-scores}
 use Rattle.scores.proofs.Growing.{grown}

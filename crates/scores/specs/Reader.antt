@@ -2,12 +2,11 @@
 -- Assumes nothing.
 use mathlib.Core.Path.{_≡_}
 use Prim.Native.Nat.{ℕ}
-use mathlib.Core.Bool.{Bool, true, false, not, _||_}
+use mathlib.Core.Bool.{Bool, not, _||_}
 use mathlib.Core.List.{List, [], _∷_, _++_}
 use lib.ListN.{length, take, drop}
 use lib.Dec.{ltb, eqb}
 use lib.IntN.{ℤ}
-use Rattle.bits.specs.Choice.{pick}
 use Rattle.graph.specs.declared.Finding.{Finding}
 use Rattle.graph.specs.declared.Finding.the-variants.{Fine, Fault}
 use Rattle.graph.specs.Refusal.{row, firstOf}

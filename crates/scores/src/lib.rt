@@ -1,14 +1,9 @@
 // Scores: the scale, the graph and the prices of scores, and the sheet that carries them.
 
-mod draw;
-mod scale;
-mod sheet;
-
 ghost use mathlib.Core.Path.{_≡_};
-ghost use mathlib.Core.List.{[], _∷_, _++_};
-ghost use Prim.Native.Nat.{_+_, _*_, _≤_};
+ghost use mathlib.Core.List.{_++_};
+ghost use Prim.Native.Nat.{_≤_};
 ghost use lib.ListN.{length, drop};
-ghost use Rattle.graph.specs.Refusal.{firstOf};
 ghost use Rattle.scores.specs.Scale.{half};
 ghost use Rattle.scores.specs.Sheet.{sheetBytes, sheetLength};
 ghost use Rattle.scores.specs.Drawing.{Promise as Drawn};
@@ -16,6 +11,9 @@ ghost use Rattle.scores.specs.Reader.{Promise as Read, shown};
 ghost use Rattle.scores.specs.Writer.{Promise as Wrote, writeFault};
 use graph::Finding;
 
+mod draw;
+mod scale;
+mod sheet;
 mod signed;
 
 // What `read` answers: a refusal with its number and place, or the sheet's p, n and t.

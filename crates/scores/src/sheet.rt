@@ -1,13 +1,11 @@
 // The sheet's fields: numbers read from bytes and written to bytes, low byte first, and the scores among them.
 ghost use mathlib.Core.Path.{_≡_};
 ghost use mathlib.Core.Bool.{not};
-ghost use mathlib.Core.List.{[], _∷_};
 ghost use Prim.Native.Nat.{_+_, _*_, _/_, _%_, _≤_, _<_};
 ghost use lib.ListN.{length, set};
 ghost use lib.Seq.{paste};
 ghost use mir.Syntax.{w16};
 ghost use mir.Val.{toZ};
-ghost use Rattle.graph.specs.Each.{each};
 ghost use Rattle.scores.specs.Scale.{onScale, half, scoresOff};
 ghost use Rattle.scores.specs.Sheet.{field, scoreAt, sheetLength, scoreBytes, trailer, notesOf, sizeOf, thresholdOf};
 ghost use Rattle.scores.specs.Reader.{wrongLayout, layoutFault, sheetFault};

@@ -2,7 +2,7 @@
 use Prim.Native.Nat.{ℕ, _≤_, _<_}
 use borrow.Author.Needs.{needs}
 use lib.ListN.{length}
-use mathlib.Core.Path.{_≡_, sym, _∙_, ap, ap₂, subst}
+use mathlib.Core.Path.{sym, _∙_, ap, ap₂, subst}
 use native.Mathlib.Omega.{arith}
 use Rattle.scores.proofs.Complement.{back}
 use Rattle.scores.proofs.Readings.{refused-sheet, refused-room, read-all}

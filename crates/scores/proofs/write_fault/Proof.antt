@@ -1,6 +1,6 @@
 -- `write_fault` meets its contract: n and the scores' number, the notes, the scale. Assumes nothing.
 use borrow.Author.Needs.{needs}
-use mathlib.Core.Path.{_≡_, sym, _∙_}
+use mathlib.Core.Path.{sym, _∙_}
 use mir.Syntax.{w16}
 use mir.ValLaws.{toZ-ofZ}
 use Rattle.scores.proofs.Drawings.{counted, at-threshold}

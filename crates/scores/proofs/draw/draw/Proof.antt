@@ -1,10 +1,9 @@
 -- `draw` meets its contract. The loop's invariant: the first `c` entries of both matrices are written. Assumes nothing.
-use Prim.Native.Nat.{ℕ, _*_, _-_, _≤_, _<_}
+use Prim.Native.Nat.{ℕ, _*_, _-_, _≤_}
 use lib.IntN.{ℤ}
-use lib.ListN.{length}
 use lib.Seq.{paste, paste-zero}
 use mathlib.Core.List.{List}
-use mathlib.Core.Path.{_≡_, sym, _∙_, ap}
+use mathlib.Core.Path.{_≡_, _∙_, ap}
 use mir.Syntax.{w16}
 use mir.Val.{ofZ, toZ}
 use mir.ValLaws.{toZ-ofZ}

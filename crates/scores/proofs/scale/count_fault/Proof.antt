@@ -1,11 +1,10 @@
 -- `count_fault` meets its contract: the checks 1 and 2 in turn. Assumes nothing.
 use borrow.Author.Needs.{needs}
 use borrow.Author.Tests.{lt-ltb, le-ltb, eq-eqb, ne-eqb}
-use mathlib.Core.List.{[], _∷_}
-use mathlib.Core.Path.{_≡_, sym, _∙_, ap}
+use mathlib.Core.List.{[]}
+use mathlib.Core.Path.{sym, _∙_}
 use Rattle.bits.proofs.Truth.{not-in, not-off}
 use Rattle.graph.specs.Check.{tooMany}
-use Rattle.graph.specs.Refusal.{firstOf}
 use Rattle.scores.proofs.Checking.{done, hit, pass}
 use Rattle.scores.proofs.scale.count_fault.Statement.{statement}
 use Rattle.scores.proofs.scale.count_fault.Tie as tie

@@ -1,5 +1,5 @@
 -- `fault_at` meets its contract. The loop's invariant: `left` is how far behind the start of row `i` the place k stands. Assumes nothing.
-use Prim.Native.Nat.{ℕ, _+_, _-_, _<_}
+use Prim.Native.Nat.{_+_, _-_, _<_}
 use borrow.Author.Needs.{needs}
 use mathlib.Core.Path.{_≡_}
 use native.Mathlib.Omega.{arith}

@@ -1,12 +1,10 @@
 -- `first_off` meets its contract. The loop's invariant: every score before `k` is on the scale. Assumes nothing.
-use Prim.Native.Nat.{ℕ, _-_, _≤_, _<_}
+use Prim.Native.Nat.{_-_, _≤_}
 use borrow.Author.Needs.{needs}
 use borrow.Author.Tests.{not-true, not-false}
 use lib.IntN.{pos}
 use lib.ListN.{length, getD}
-use mathlib.Core.Bool.{true, false}
-use mathlib.Core.Path.{_≡_, sym, _∙_, ap}
-use native.Mathlib.Omega.{arith}
+use mathlib.Core.Path.{sym, _∙_, ap}
 use Rattle.scores.proofs.Complement.{back}
 use Rattle.scores.proofs.Offs.{Before, before-zero, before-more, off-here, off-nowhere}
 use Rattle.scores.proofs.scale.first_off.Statement.{statement}

@@ -1,7 +1,7 @@
 -- `half_of` meets its contract. Assumes nothing.
 use Prim.Native.Nat.{ℕ, _*_, _-_, _/_, _≤_}
 use borrow.Author.Needs.{needs}
-use mathlib.Core.Path.{_≡_, ap, sym}
+use mathlib.Core.Path.{ap, sym}
 use native.Mathlib.Nat.{mul-le-mul}
 use native.Mathlib.Omega.{arith}
 use Rattle.scores.proofs.scale.half_of.Statement.{statement}

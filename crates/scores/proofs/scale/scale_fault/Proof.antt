@@ -1,12 +1,10 @@
 -- `scale_fault` meets its contract: the threshold, then the scores. Assumes nothing.
 use borrow.Author.Needs.{needs}
-use mathlib.Core.List.{[], _∷_}
-use mathlib.Core.Path.{_≡_, sym, _∙_, ap}
+use mathlib.Core.Path.{sym, _∙_, ap}
 use mir.Syntax.{w16}
 use mir.ValLaws.{toZ-ofZ}
 use Rattle.bits.proofs.Truth.{not-in, not-off}
 use Rattle.graph.proofs.Refusals.{firstOf-single}
-use Rattle.graph.specs.Refusal.{firstOf}
 use Rattle.scores.proofs.Checking.{hit, pass}
 use Rattle.scores.proofs.scale.scale_fault.Statement.{statement}
 use Rattle.scores.proofs.scale.scale_fault.Tie as tie

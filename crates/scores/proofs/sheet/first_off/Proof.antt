@@ -3,7 +3,6 @@ use Prim.Native.Nat.{_-_, _≤_}
 use borrow.Author.Needs.{needs}
 use borrow.Author.Tests.{not-true, not-false}
 use mathlib.Core.Path.{sym, _∙_, ap}
-use native.Mathlib.Omega.{arith}
 use Rattle.scores.proofs.Complement.{back}
 use Rattle.scores.proofs.Offs.{Before, before-zero, before-more, off-here, off-nowhere}
 use Rattle.scores.proofs.sheet.first_off.Statement.{statement}

@@ -1,15 +1,13 @@
 -- `is_long` meets its contract. Assumes nothing.
-use Prim.Native.Nat.{ℕ, _≤_, _<_}
+use Prim.Native.Nat.{ℕ}
 use borrow.Author.Needs.{needs}
 use lib.Dec.{eqb}
 use lib.ListN.{length}
-use mathlib.Core.Bool.{false, not}
-use mathlib.Core.Path.{_≡_, sym, _∙_, ap, subst}
+use mathlib.Core.Path.{_∙_, ap}
 use native.Mathlib.Omega.{arith}
 use Rattle.scores.proofs.Sheets.{too-much, as-long}
 use Rattle.scores.proofs.sheet.is_long.Statement.{statement}
 use Rattle.scores.proofs.sheet.is_long.Tie as tie
-use Rattle.scores.specs.Reader.{wrongLayout}
 use Rattle.scores.specs.Sheet.{notesOf, sheetLength}
 
 notes-of-requires : tie.Need-notes-of-requires

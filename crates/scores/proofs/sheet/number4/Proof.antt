@@ -1,5 +1,4 @@
 -- `number4` meets its contract: two numbers of two bytes. Assumes nothing.
-use Prim.Native.Nat.{ℕ, _+_}
 use borrow.Author.Needs.{needs}
 use native.Mathlib.Omega.{arith}
 use Rattle.scores.proofs.Fields.{field-four}

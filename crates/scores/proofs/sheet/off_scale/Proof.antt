@@ -1,14 +1,11 @@
 -- `off_scale` meets its contract: the first score off the scale is that of the first pair at fault. Assumes nothing.
-use Prim.Native.Nat.{ℕ}
 use borrow.Author.Needs.{needs}
-use mathlib.Core.Path.{_≡_, sym, _∙_, ap, subst}
 use native.Mathlib.Omega.{arith}
 use Rattle.scores.proofs.Places.{half-twice}
 use Rattle.scores.proofs.ScoreFaults.{scores-fine, scores-fault, listed-off}
 use Rattle.scores.proofs.sheet.off_scale.Statement.{statement}
 use Rattle.scores.proofs.sheet.off_scale.Tie as tie
-use Rattle.scores.specs.Inner.{FirstOff, scoresIn}
-use Rattle.scores.specs.Scale.{onScale}
+use Rattle.scores.specs.Inner.{scoresIn}
 use Rattle.scores.specs.Sheet.{scoreAt}
 
 half-of-requires : tie.Need-half-of-requires

@@ -1,5 +1,5 @@
 -- `put_notes` meets its contract. The loop's invariant: the first `k` bytes are copied. Assumes nothing.
-use Prim.Native.Nat.{ℕ, _-_, _≤_, _<_}
+use Prim.Native.Nat.{_-_, _≤_}
 use lib.ListN.{length}
 use lib.Seq.{paste, paste-zero}
 use mathlib.Core.Path.{_≡_, refl}

@@ -1,10 +1,10 @@
 -- `put_scores` meets its contract. The loop's invariant: the first `k` scores are written, two bytes each. Assumes nothing.
-use Prim.Native.Nat.{ℕ, _*_, _-_, _≤_, _<_}
+use Prim.Native.Nat.{_*_, _-_, _≤_}
 use borrow.Author.Needs.{needs}
 use lib.IntN.{ℤ, pos}
 use lib.ListN.{length, getD}
 use lib.Seq.{paste, paste-zero}
-use mathlib.Core.Path.{_≡_, refl, sym, _∙_, ap}
+use mathlib.Core.Path.{_≡_, _∙_, ap}
 use mir.Syntax.{w16}
 use mir.Val.{ofZ}
 use native.Mathlib.Omega.{arith}

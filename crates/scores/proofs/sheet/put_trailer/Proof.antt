@@ -2,7 +2,7 @@
 use Prim.Native.Nat.{ℕ}
 use borrow.Author.Needs.{needs}
 use mathlib.Core.List.{List}
-use mathlib.Core.Path.{_≡_, sym, _∙_, ap}
+use mathlib.Core.Path.{_∙_, ap}
 use mir.Syntax.{w16}
 use mir.Val.{ofZ}
 use mir.ValLaws.{toZ-ofZ}

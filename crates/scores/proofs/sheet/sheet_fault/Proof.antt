@@ -1,7 +1,7 @@
 -- `sheet_fault` meets its contract: the layout, the threshold, the scores. Assumes nothing.
-use Prim.Native.Nat.{ℕ, _≤_}
+use Prim.Native.Nat.{ℕ}
 use borrow.Author.Needs.{needs}
-use mathlib.Core.Path.{_≡_, sym, _∙_, ap, ap₂, subst}
+use mathlib.Core.Path.{sym, _∙_, ap, ap₂}
 use native.Mathlib.Omega.{arith}
 use Rattle.scores.proofs.Complement.{back}
 use Rattle.scores.proofs.Sheets.{laid, layout-refused, threshold-off, scores-decide}

@@ -2,10 +2,8 @@
 use Prim.Native.Nat.{_<_, ℕ, _-_, _≤_}
 use borrow.Author.Needs.{needs}
 use lib.IntN.{pos, ℤ}
-use lib.ListN.{length}
-use lib.Seq.{paste, paste-zero}
-use mathlib.Core.List.{List}
-use mathlib.Core.Path.{_≡_, sym, _∙_, ap}
+use lib.Seq.{paste}
+use mathlib.Core.Path.{_≡_, sym, _∙_}
 use native.Mathlib.Omega.{arith}
 use Rattle.scores.proofs.Complement.{back}
 use Rattle.scores.proofs.Pasting.{so-long, one-more, complete}

@@ -1,0 +1,17 @@
+pub mod Growth
+pub mod Ahead
+pub mod Folded
+pub mod Six
+pub mod Tallied
+pub mod Fits
+pub mod Exact
+pub mod Laying
+pub mod Turn
+pub mod Touch
+pub mod Lasts
+pub mod Thirds
+pub mod Masks
+pub mod Whole
+pub mod PriceLaws
+pub mod Alike
+pub mod Answers
