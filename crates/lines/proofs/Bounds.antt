@@ -20,8 +20,7 @@ use Rattle.forest.specs.Forest.{roots}
 use Rattle.forest.proofs.Groups.{parents-bounded}
 use Rattle.scores.proofs.Squares.{row-column}
 use Rattle.lines.specs.Text.{bytes, digit, decimal}
-use Rattle.lines.specs.Lines.{said, one, two, three, refusalLine, stoppedLine, verticesLine, answerLine, changeLine, changeLines, parentLine, parentLines, groupsLine}
-use Rattle.lines.specs.Inner.{treeLines}
+use Rattle.lines.specs.Lines.{said, one, two, three, refusalLine, stoppedLine, verticesLine, answerLine, changeLine, changeLines, parentLine, parentLines, groupsLine, treeLines}
 use Rattle.lines.proofs.Decimals.{decimal-small, decimal-large}
 
 -- 10 x 10 x ..

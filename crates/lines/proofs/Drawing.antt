@@ -80,6 +80,45 @@ module _ (n : ℕ) (t : ℤ) (scores : List ℤ) (g ps : List ℕ) (ready : Read
         subst (λ a. Paged (Searched n (edge n a) (tollOf (square n (priceEntry n t scores)))) old next now) graph-drawn
         (subst (λ b. Paged (Searched n (edge n g′) (tollOf b)) old next now) prices-drawn page)
 
+-- the graph and the prices of scores that pass their checks, by themselves
+module _
+    (n : ℕ)
+    (t : ℤ)
+    (scores : List ℤ)
+    (few : n ≤ 128)
+    (counted : length scores ≡ half n)
+    (scale : onScale t ≡ true)
+    (scored : Fine ≡ scoresOff n scores) where
+  abbrev graph : List ℕ
+  graph = square n (edgeByte n t scores)
+
+  abbrev prices : List ℕ
+  prices = square n (priceEntry n t scores)
+
+  nothing-behind : (f : ℕ → ℕ → ℕ) → square n f ≡ square n f ++ drop (n * n) (square n f)
+  nothing-behind f =
+      sym
+      (ap (λ l. square n f ++ l) (drop-of-length-le (square n f) {i = n * n} (omega (arith, length-square n f))) ∙
+      append-nil (square n f))
+
+  pub squares-checked : Checked n (square n (edgeByte n t scores)) (square n (priceEntry n t scores))
+  squares-checked =
+      let ready : Ready n t scores graph prices =
+      record {
+        few = few;
+        counted = counted;
+        scale = scale;
+        scored = scored;
+        bytes = length-square n (edgeByte n t scores);
+        costs = length-square n (priceEntry n t scores);
+      }
+      in
+      checked n t scores graph prices ready refl
+      (record {
+        refused = sym (no-fault n t scores graph prices ready);
+        meant = (nothing-behind (edgeByte n t scores), nothing-behind (priceEntry n t scores));
+      })
+
 -- n(n-1)/2 as the code counts it
 pub half-told : (n : ℕ) → (n * n - n) / 2 ≡ half n
 half-told n = ap (λ (m : ℕ). m / 2) (omega (arith, mul-sub n n 1, mul-one n))

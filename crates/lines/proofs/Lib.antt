@@ -13,3 +13,4 @@ pub mod Drawing
 pub mod Taking
 pub mod Answers
 pub mod Determined
+pub mod Enough

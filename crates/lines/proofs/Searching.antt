@@ -3,7 +3,7 @@
 use mathlib.Core.Path.{_≡_, refl, sym, _∙_, ap, ap₂, subst}
 use mathlib.Core.Logic.{inl, inr}
 use mathlib.Core.Bool.{Bool, true}
-use mathlib.Core.List.{List, [], _∷_, _++_, append-assoc}
+use mathlib.Core.List.{List, [], _∷_, _++_}
 use Prim.Native.Nat.{ℕ, _+_, _*_, _-_, _/_, _≤_, _<_}
 use native.Mathlib.Nat.{mul-le-mul}
 use native.Mathlib.Omega.{arith}
@@ -19,21 +19,19 @@ use Rattle.graph.specs.Quad.{Clean}
 use Rattle.graph.proofs.Leading.{fault-not-fine}
 use Rattle.graph.proofs.Reading.{entries-graph}
 use Rattle.graph.proofs.Refusals.{firstOf-next, firstOf-single, row-passes}
-use Rattle.forest.specs.Order.{parent}
-use Rattle.forest.specs.Forest.{roots}
-use Rattle.repair.specs.Better.{price}
 use Rattle.repair.specs.Pair.{isPair, changeable, all, ascending}
 use Rattle.repair.specs.Repair.{tollOf, toggled, Repair}
 use Rattle.repair.proofs.Sets.{all-at, all-in}
 use Rattle.repair.proofs.Room.{room-most}
 use Rattle.repair.proofs.Toggling.{toggled-graph}
 use Rattle.repair.proofs.Always.{always-repair}
-use Rattle.lines.specs.declared.search.Answer.{Answer}
-use Rattle.lines.specs.declared.search.Answer.the-variants.{Refused, Stopped, Nothing, Repaired}
-use Rattle.lines.specs.Search.{Promise, Over, Best, checks, tooLarge, pairs}
-use Rattle.lines.specs.Lines.{stoppedLine, verticesLine, answerLine, changeLines, parentLines, groupsLine}
+use Rattle.search.specs.declared.Answer.{Answer}
+use Rattle.search.specs.declared.Answer.the-variants.{Refused, Stopped, Nothing, Repaired}
+use Rattle.search.specs.Answer.{Promise, Over, Best, checks, tooLarge}
+use Rattle.search.specs.Memory.{pairs}
+use Rattle.lines.specs.Lines.{stoppedLine, verticesLine, answerLine, changeLines, treeLines}
 use Rattle.lines.specs.Put.{Put}
-use Rattle.lines.specs.Inner.{drawnOf, treeLines, Paged, Checked}
+use Rattle.lines.specs.Inner.{drawnOf, Paged, Checked}
 use Rattle.lines.specs.Report as report
 use Rattle.lines.proofs.Behind.{put-as}
 use Rattle.lines.proofs.Bounds.{page-short, tens}
@@ -145,13 +143,7 @@ module _ (n : ℕ) (g ps list : List ℕ) (ok : Checked n g ps) (room : length l
     unfolding report.pageOf
     whole =
         ap page listed ∙
-        ap₂ (λ c s. (verticesLine n ++ answerLine c (length found) s) ++ changeLines n (edge n g) found ++ treeLines n (toggled n (edge n g) found)) (best .paid) (best .counted) ∙
-        sym
-        (append-assoc
-        (verticesLine n ++ answerLine (price (tollOf ps) found) (length found) (report.nodes n (edge n g) (tollOf ps)) ++
-        changeLines n (edge n g) found)
-        (parentLines n (parent n (toggled n (edge n g) found)))
-        (groupsLine (roots n (parent n (toggled n (edge n g) found)))))
+        ap₂ (λ c s. (verticesLine n ++ answerLine c (length found) s) ++ changeLines n (edge n g) found ++ treeLines n (toggled n (edge n g) found)) (best .paid) (best .counted)
 
     pub repaired-paged :
         {old now : List ℕ} {next : ℕ} → Put old 0 (page (take count after)) next now →

@@ -1,7 +1,7 @@
 -- What the inner functions promise their callers. No entry point's promise cites a definition of this file. Assumes nothing.
 use mathlib.Core.Path.{_≡_}
 use mathlib.Core.Bool.{Bool, true}
-use mathlib.Core.List.{List, _++_}
+use mathlib.Core.List.{List}
 use Prim.Native.Nat.{ℕ, _*_, _≤_}
 use lib.ListN.{length, getD, set}
 use lib.IntN.{ℤ}
@@ -10,11 +10,8 @@ use Rattle.bits.specs.Choice.{pick}
 use Rattle.graph.specs.declared.Finding.the-variants.{Fine}
 use Rattle.graph.specs.Check.{entries}
 use Rattle.graph.specs.Price.{priceEntries}
-use Rattle.forest.specs.Order.{parent}
-use Rattle.forest.specs.Forest.{roots}
 use Rattle.repair.specs.Pair.{isPair}
 use Rattle.scores.specs.Scale.{half, onScale, scoresOff, square}
-use Rattle.lines.specs.Lines.{parentLines, groupsLine}
 use Rattle.lines.specs.Put.{Put}
 
 -- the graph with the edges e as "n x n bytes, row by row: 0 or 1"
@@ -30,10 +27,6 @@ pub record Paged (P : List ℕ → Type 0) (before : List ℕ) (next : ℕ) (aft
   pub lines : List ℕ
   pub right : P lines
   pub put : Put before 0 lines next after
-
--- the lines of the forest of a clean graph
-abbrev pub treeLines : ℕ → (ℕ → ℕ → Bool) → List ℕ
-treeLines n e = parentLines n (parent n e) ++ groupsLine (roots n (parent n e))
 
 -- bytes and prices that pass their checks, with no fixed pair
 pub record Checked (n : ℕ) (graph prices : List ℕ) : Type 0 where

@@ -3,4 +3,3 @@ pub mod Put
 pub mod Lines
 pub mod Report
 pub mod Inner
-pub mod Search

@@ -6,7 +6,8 @@ use lib.ListN.{length, getD}
 use lib.Dec.{eqb}
 use Rattle.bits.specs.Choice.{pick}
 use Rattle.graph.specs.Each.{each}
-use Rattle.forest.specs.Order.{nobody}
+use Rattle.forest.specs.Order.{nobody, parent}
+use Rattle.forest.specs.Forest.{roots}
 use Rattle.lines.specs.Text.{bytes, decimal}
 
 -- a word and a number; and lines of one, two and three of these
@@ -58,3 +59,7 @@ parentLines n p = each n (λ v. parentLine v (p v))
 -- "the last the number of groups"
 abbrev pub groupsLine : ℕ → List ℕ
 groupsLine groups = one (bytes "groups ") groups
+
+-- both, of the graph with the edges e
+abbrev pub treeLines : ℕ → (ℕ → ℕ → Bool) → List ℕ
+treeLines n e = parentLines n (parent n e) ++ groupsLine (roots n (parent n e))

@@ -12,8 +12,6 @@ use Rattle.graph.specs.declared.Finding.the-variants.{Fine, Fault}
 use Rattle.graph.specs.Refusal.{row, firstOf}
 use Rattle.graph.specs.Check.{tooShort}
 use Rattle.graph.specs.Graph.{edge}
-use Rattle.forest.specs.Order.{parent}
-use Rattle.forest.specs.Forest.{roots}
 use Rattle.walk.specs.Best.{IsBest}
 use Rattle.repair.specs.Better.{price}
 use Rattle.repair.specs.Repair.{tollOf, toggled, Repair}
@@ -29,8 +27,7 @@ use Rattle.lines.specs.Lines.{
   verticesLine,
   answerLine,
   changeLines,
-  parentLines,
-  groupsLine,
+  treeLines,
 }
 
 -- "k = 81,280,000, L = 1,000,000"
@@ -52,8 +49,7 @@ module _ (n : ℕ) (e : ℕ → ℕ → Bool) (toll : ℕ → ℕ) where
       verticesLine n ++
       answerLine (price toll repair) (length repair) nodes ++
       changeLines n e repair ++
-      parentLines n (parent n (toggled n e repair)) ++
-      groupsLine (roots n (parent n (toggled n e repair)))
+      treeLines n (toggled n e repair)
 
   -- "The one returned has the lowest price; among equals, .."
   pub record Mended (text : List ℕ) : Type 0 where

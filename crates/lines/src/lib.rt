@@ -7,7 +7,6 @@ ghost use Rattle.lines.specs.Report.{Promise};
 
 mod mend;
 mod page;
-mod search;
 mod sheet;
 mod text;
 

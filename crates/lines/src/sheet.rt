@@ -15,12 +15,11 @@ ghost use Rattle.repair.specs.Repair.{toggled, tollOf};
 ghost use Rattle.scores.specs.Scale.{half, onScale, scoresOff, edgeByte, priceEntry, square};
 ghost use Rattle.scores.specs.Reader.{refusal};
 ghost use Rattle.lines.specs.Put.{Put};
-ghost use Rattle.lines.specs.Lines.{refusalLine, verticesLine, answerLine, changeLines};
-ghost use Rattle.lines.specs.Inner.{drawnOf, treeLines, Paged, Checked, Ready};
+ghost use Rattle.lines.specs.Lines.{refusalLine, verticesLine, answerLine, changeLines, treeLines};
+ghost use Rattle.lines.specs.Inner.{drawnOf, Paged, Checked, Ready};
 ghost use Rattle.lines.specs.Report.{Searched, Lines};
 use crate::mend;
 use crate::page;
-use crate::search;
 use crate::text;
 use scores::Reading;
 

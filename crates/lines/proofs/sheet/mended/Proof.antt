@@ -5,8 +5,8 @@ use lib.ListN.{length}
 use Rattle.graph.specs.Graph.{edge}
 use Rattle.graph.specs.Quad.{Clean}
 use Rattle.repair.specs.Repair.{toggled}
-use Rattle.lines.specs.Lines.{verticesLine, answerLine, changeLines}
-use Rattle.lines.specs.Inner.{drawnOf, treeLines}
+use Rattle.lines.specs.Lines.{verticesLine, answerLine, changeLines, treeLines}
+use Rattle.lines.specs.Inner.{drawnOf}
 use Rattle.lines.proofs.Behind.{room-as, put-as, first-room, then-room, both}
 use Rattle.lines.proofs.Mended.{same-edges, mended-fine, mended-long}
 use Rattle.lines.proofs.Drawn.{drawn-long}
