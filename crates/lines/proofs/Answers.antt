@@ -9,6 +9,7 @@ use lib.Seq.{take-at}
 use borrow.Author.Tests.{lt-ltb, le-ltb}
 use Rattle.graph.specs.Check.{tooShort}
 use Rattle.graph.proofs.Refusals.{firstOf-single, row-holds, row-passes}
+use Rattle.lines.specs.declared.Answer.{Answer}
 use Rattle.lines.specs.declared.Answer.the-variants.{Refused, Written}
 use Rattle.lines.specs.Put.{Put}
 use Rattle.lines.specs.Inner.{Paged}
@@ -59,3 +60,11 @@ module _ (sheet : List ℕ) {old now : List ℕ} {next : ℕ} (page : Paged (Lin
               ap (λ (k : ℕ). page .lines ++ drop k text) (zero-add (length (page .lines)) ∙ sym long),
         );
       }
+
+-- for callers: what was written lies inside the text
+pub size-inside :
+    {sheet text after : List ℕ} {r : Answer} {size : ℕ} → Promise sheet text r after → r ≡ Written size →
+    size ≤ length after
+size-inside {sheet} {text} {after} {r} {size} told e =
+    let p = subst (λ (x : Answer). Promise sheet text x after) e told in
+    omega (arith, p .meant .0, ap length (p .meant .1), length-append (p .lines) (drop size text))
