@@ -2,7 +2,7 @@
 -- are equal. So the table of costs gives the bound of the prices that it was made from. Assumes nothing.
 use mathlib.Core.Path.{_≡_, refl, sym, _∙_, ap, ap₂}
 use mathlib.Core.Logic.{_⊎_, inl, inr, _≢_}
-use mathlib.Core.Bool.{Bool, true, false, not, _&&_, _||_}
+use mathlib.Core.Bool.{Bool, true, not, _&&_, _||_}
 use mathlib.Core.List.{List, [], _∷_, _++_, List·Memᴰ, List·Memᴰ·head, List·Memᴰ·tail}
 use Prim.Native.Nat.{ℕ, _+_, _*_, _/_, _%_, _≤_, _<_, min}
 use native.Mathlib.Nat.{div-add-mod', mod-lt}
@@ -11,7 +11,7 @@ use lib.ListN.{getD}
 use lib.Dec.{ltb, eqb}
 use borrow.Author.Tests.{lt-ltb, le-ltb, ltb-true, eq-eqb, ne-eqb}
 use Rattle.bits.specs.Choice.{pick}
-use Rattle.bits.proofs.Truth.{and-in, and-left, and-right, and-off-right, not-in, not-off, below, equal}
+use Rattle.bits.proofs.Truth.{and-in, and-left, and-right, and-off-right, not-in, not-off, equal}
 use Rattle.graph.specs.declared.Quad.{Quad}
 use Rattle.graph.specs.declared.Finding.the-variants.{Fine}
 use Rattle.graph.specs.Each.{only}
@@ -19,14 +19,15 @@ use Rattle.graph.specs.Price.{fixed, priceEntries}
 use Rattle.graph.specs.Quad.{quads}
 use Rattle.graph.proofs.Facts.{Apart, quad-induced}
 use Rattle.graph.proofs.Quads.{Named, listed-named}
-use Rattle.repair.specs.Pair.{pairOf, isPair, changeable, member, all}
+use Rattle.repair.specs.Pair.{isPair, changeable, member, all}
 use Rattle.repair.specs.Repair.{tollOf}
 use Rattle.repair.specs.Packing.{pairsOf, those, share, lowest, hopeless, empty, stuck, packed, packing}
 use Rattle.repair.proofs.Numbers.{pair-is}
-use Rattle.repair.proofs.Sets.{member-here, member-there, all-at, those-keep, those-drop, those-out}
+use Rattle.repair.proofs.Tolls.{some-vertex, tolls-within}
+use Rattle.repair.proofs.Sets.{member-here, member-there, all-at, those-out}
 use Rattle.bound.specs.Table.{tollAt, freeAt}
-use Rattle.bound.specs.Costs.{costAt, Costs}
-use Rattle.bound.proofs.PriceLaws.{cost-pair, prices-small}
+use Rattle.bound.specs.Costs.{Costs}
+use Rattle.bound.proofs.PriceLaws.{cost-pair}
 
 -- equal on every member
 abbrev Like : {A : Type 0} → (ℕ → A) → (ℕ → A) → List ℕ → Type 0
@@ -131,27 +132,13 @@ module _ (n : ℕ) (few : n ≤ 128) (prices cost : List ℕ) (C : Costs n price
     unfolding isPair
     inside = ltb-true x (n * n) (and-left (ltb x (n * n)) (ltb (x / n) (x % n)) h)
 
-    some : 0 < n
-    some = go (below n 1)
-      where
-        go : (n < 1) ⊎ (1 ≤ n) → 0 < n
-        go (inl l) = let z : n ≡ 0 = omega arith in absurd (let i = inside in let k : n * n ≡ 0 = rw z refl in omega arith)
-        go (inr l) = l
-
     pub toll-made : tollAt n cost x ≡ tollOf prices x
     unfolding tollAt
     toll-made =
-        let high = mod-lt x some in
+        let high = mod-lt x (some-vertex n x inside) in
         let i-in = low in
         C .each (x / n * 128 + x % n) (omega arith) ∙ sym (cost-pair n prices (x / n) (x % n) low high few) ∙
         ap (λ p. getD prices p 0) (div-add-mod' x n)
-
-    small : tollOf prices x ≤ fixed
-    small =
-        let high = mod-lt x some in
-        let i-in = low in
-        omega
-        (arith, ap (λ p. getD prices p 0) (div-add-mod' x n), prices-small n prices ok (x / n) (x % n) (omega arith) high)
 
     pub free-made : freeAt n cost x ≡ changeable n (tollOf prices) x
     unfolding freeAt changeable
@@ -164,8 +151,8 @@ module _ (n : ℕ) (few : n ≤ 128) (prices cost : List ℕ) (C : Costs n price
             le-ltb (tollAt n cost x) fixed (omega (arith, toll-made)) ∙
             sym (and-off-right (isPair n x) (not-off (eq-eqb (tollOf prices x) fixed e)))
         go (inr d) =
-            lt-ltb (tollAt n cost x) fixed (omega (arith, toll-made, small)) ∙
-            sym (and-in h (not-in (ne-eqb (tollOf prices x) fixed d)))
+            let c = and-in h (not-in (ne-eqb (tollOf prices x) fixed d)) in
+            lt-ltb (tollAt n cost x) fixed (omega (arith, toll-made, tolls-within n prices ok x c .1)) ∙ sym c
 
   -- gives the bound of the prices
   pub packing-made :

@@ -15,3 +15,4 @@ pub mod Whole
 pub mod PriceLaws
 pub mod Alike
 pub mod Answers
+pub mod Determined

@@ -1,23 +1,20 @@
--- Check 6, entry by entry: the rule in each case of the code, and what prices that pass it are. The table of costs grows from
--- its front, 65,535 behind. Assumes nothing.
+-- Check 6, entry by entry: the rule in each case of the code. The table of costs grows from its front, 65,535 behind.
+-- Assumes nothing.
 use mathlib.Core.Path.{_≡_, refl, sym, _∙_, ap, subst}
 use mathlib.Core.Logic.{_⊎_, inl, inr, _≢_}
-use mathlib.Core.Bool.{Bool, true, false, not, _&&_, _||_}
+use mathlib.Core.Bool.{true, false, _&&_, _||_}
 use mathlib.Core.List.{List}
 use Prim.Native.Nat.{ℕ, _+_, _*_, _/_, _%_, _≤_, _<_}
 use native.Mathlib.Omega.{arith}
-use lib.ListN.{length, getD, set, replicate, length-set, getD-replicate}
+use lib.ListN.{getD, set, replicate, length-set, getD-replicate}
 use lib.Seq.{getD-set-same, getD-set-other}
 use lib.Dec.{ltb, leb, eqb}
-use borrow.Author.Tests.{eq-eqb, ne-eqb, le-leb, lt-leb, leb-true, lt-ltb, le-ltb, eqb-true}
+use borrow.Author.Tests.{eq-eqb, ne-eqb, le-leb, lt-leb, lt-ltb, le-ltb}
 use Rattle.bits.specs.Choice.{pick}
-use Rattle.bits.proofs.Truth.{never, which, and-in, and-left, and-right, and-off-left, and-off-right, or-left, or-right, or-out, or-off, below, equal, pick-true, pick-false}
-use Rattle.graph.specs.declared.Finding.{Finding}
+use Rattle.bits.proofs.Truth.{and-in, and-off-left, and-off-right, or-right, or-off, below, equal, pick-true, pick-false}
 use Rattle.graph.specs.declared.Finding.the-variants.{Fine, Fault}
-use Rattle.graph.specs.Price.{fixed, priced, priceEntry, priceEntries}
+use Rattle.graph.specs.Price.{fixed, priced, priceEntry}
 use Rattle.graph.proofs.MaskRow.{or-none}
-use Rattle.graph.proofs.Leading.{fault-not-fine}
-use Rattle.graph.proofs.Grid.{grid-fine}
 use Rattle.bound.specs.Costs.{costAt, Costs, Filled}
 
 module _ (i j p : ℕ) where
@@ -44,18 +41,6 @@ module _ (i j p : ℕ) where
       (off-diagonal d ∙ ap (λ t. (leb 1 p && leb p 10000) || t) (ne-eqb p fixed f) ∙ or-none (leb 1 p && leb p 10000) ∙
       ap (λ t. t && leb p 10000) (le-leb 1 p (omega arith)))
 
-  -- no price is above 65,535
-  pub priced-small : priced i j p ≡ true → p ≤ fixed
-  priced-small h = go (equal i j)
-    where
-      rest : ((leb 1 p && leb p 10000) ≡ true) ⊎ (eqb p fixed ≡ true) → p ≤ fixed
-      rest (inl k) = let l = leb-true p 10000 (and-right (leb 1 p) (leb p 10000) k) in omega arith
-      rest (inr k) = let e = eqb-true p fixed k in omega arith
-
-      go : (i ≡ j) ⊎ (i ≢ j) → p ≤ fixed
-      go (inl e) = let z = eqb-true p 0 (on-diagonal e ∙ h) in omega arith
-      go (inr d) = rest (or-out (leb 1 p && leb p 10000) (eqb p fixed) (sym (off-diagonal d) ∙ h))
-
 module _ (n : ℕ) (ps : List ℕ) (i j : ℕ) where
   pub unlike : getD ps (i * n + j) 0 ≢ getD ps (j * n + i) 0 → Fault 6 i j ≡ priceEntry n ps i j
   unfolding priceEntry
@@ -75,22 +60,6 @@ module _ (n : ℕ) (ps : List ℕ) (i j : ℕ) where
       sym
       (pick-false Fine (Fault 6 i j)
       (and-off-left (eqb (getD ps (i * n + j) 0) (getD ps (j * n + i) 0)) h))
-
-  entry-priced : priceEntry n ps i j ≡ Fine → priced i j (getD ps (i * n + j) 0) ≡ true
-  entry-priced h = go (which (priced i j (getD ps (i * n + j) 0)))
-    where
-      go :
-          (priced i j (getD ps (i * n + j) 0) ≡ true) ⊎ (priced i j (getD ps (i * n + j) 0) ≡ false) →
-          priced i j (getD ps (i * n + j) 0) ≡ true
-      go (inl k) = k
-      go (inr k) = absurd (fault-not-fine (outside k ∙ h))
-
--- prices that pass
-pub prices-small :
-    (n : ℕ) (ps : List ℕ) → priceEntries n ps ≡ Fine → (i j : ℕ) → i < n → j < n → getD ps (i * n + j) 0 ≤ fixed
-unfolding priceEntries
-prices-small n ps ok i j i-in j-in =
-    priced-small i j (getD ps (i * n + j) 0) (entry-priced n ps i j (grid-fine n (priceEntry n ps) ok i j i-in j-in))
 
 module _ (n : ℕ) (ps : List ℕ) where
   pub filled-none : Filled n ps 0 (replicate 16384 65535)

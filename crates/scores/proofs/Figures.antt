@@ -56,7 +56,7 @@ holds (sheet bytes notes scores n t) =
     && eqb (sizeOf bytes) n
     && sameZ (thresholdOf bytes) t
 
-pub every : List Figure → Bool
+unfoldable pub every : List Figure → Bool
 every [] = true
 every (f ∷ fs) = holds f && every fs
 

@@ -23,15 +23,17 @@ same-length c = search needs
 returns : tie.Need-returns
 unfolding laidAll fee
 returns c =
-    let at = c .before .before .before .before .before .before .before .before .before .before .before .before .before .before .before .before .before .before .args in
+    let second = c .before .before .before .before .before .before in
+    let first = second .before .before .before .before in
+    let at = first .before .before .before .before .before .before .before .before .args in
     let cost = at .cost .now in
     laid-on (laid cost (at .a) (at .b)) (lower cost (at .a) (at .b))
     (laid-on (λ u. laid cost (at .a) (at .c) (laid cost (at .a) (at .d) u))
     (λ m. lower cost (at .a) (at .c) (lower cost (at .a) (at .d) m))
     (laid-on (λ u. laid cost (at .b) (at .c) (laid cost (at .b) (at .d) u))
-    (λ m. lower cost (at .b) (at .c) (lower cost (at .b) (at .d) m)) (c .before .before .before .before .before .before .before .before .before .before .before .before .before .before .lay .ensures)
-    (c .before .before .before .before .before .before .before .before .before .before .lay-two .ensures))
-    (c .before .before .before .before .before .before .lay-two2 .ensures))
+    (λ m. lower cost (at .b) (at .c) (lower cost (at .b) (at .d) m)) (first .before .before .before .before .lay .ensures)
+    (first .lay-two .ensures))
+    (second .lay-two2 .ensures))
     (c .before .before .lay2 .ensures)
 
 pub lay-all-spec : {M : Type 1} → statement M

@@ -1,0 +1,16 @@
+pub mod Behind
+pub mod Decimals
+pub mod Turns
+pub mod Spelling
+pub mod Changing
+pub mod Drawn
+pub mod Mending
+pub mod Bounds
+pub mod Trees
+pub mod Mended
+pub mod Searching
+pub mod Drawing
+pub mod Taking
+pub mod Answers
+pub mod Determined
+pub mod Enough
