@@ -10,7 +10,7 @@ use lib.Arith.{digits_div, digits_mod, lt-one}
 use lib.Bits.{bit_and, and_le_r}
 use lib.Count.{ones, ones_step, count_trailing_zeros, under}
 use lib.Dec.{eqb, eqb-suc-zero, eqb-suc-suc}
-use Rattle.bits.specs.Bit.{odd, bit}
+use Rattle.bits.specs.Bit.{bit}
 use Rattle.bits.specs.Choice.{count}
 use Rattle.bits.specs.Word.{Lowest, Cleared}
 use Rattle.bits.proofs.Truth.{never, and_off_left, and_on}

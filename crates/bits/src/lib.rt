@@ -1,5 +1,7 @@
 // One-word operations on u64 by shift and mask: adjacency tests, toggles and intersections on a row's words.
 // Each contract says every bit of the answer, by the one definition `bit` of specs/Bit.
+#![tactic(auto)]
+
 ghost use Rattle.std.specs.Prelude.{◌≡◌, not, ◌&&◌, ◌||◌, ℕ, ◌<◌, ◌≤◌, eqb, leb};
 ghost use Rattle.bits.specs.Bit.{bit};
 ghost use Rattle.bits.specs.Choice.{pick, count};
