@@ -1,4 +1,5 @@
 // Graphs as lent bytes and as words: the checks 1 to 4, rows, toggling a pair, and the first quad in listing order.
+#![tactic(auto)]
 
 pub mod check;
 pub mod rows;

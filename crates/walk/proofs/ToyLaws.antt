@@ -15,7 +15,7 @@ use Rattle.walk.specs.Walk.{entered, only_if, found, opens, tries, branch, visit
 use Rattle.walk.specs.Best.{IsBest, keep_better, limit_of}
 use Rattle.walk.proofs.Promises.{kept_best}
 use Rattle.walk.proofs.Laws.{Laws, Ordered, NotBetter, Safe, marked}
-use Rattle.walk.proofs.Toy.{Thing, first, second, third, Mark, ajar, taken, shut, Three, at, put, is_taken, is_open, close, set_of, size, enough, missing, toy, rank, order, bound, pruned, root, answer}
+use Rattle.walk.proofs.Toy.{Thing, first, second, third, Mark, ajar, taken, shut, Three, at, put, is_open, close, set_of, size, enough, toy, rank, order, bound, pruned, root, answer}
 
 -- where the first test passes, so does the second
 abbrev pub ◌⇒◌ : Bool → Bool → Bool

@@ -1,0 +1,9 @@
+-- `graph::rows::row_of` meets its contract: two words of 64 columns make a row. Assumes nothing.
+use native.Mathlib.Omega.{arith}
+use Rattle.graph.proofs.RowLaws.{row_made}
+use Rattle.graph.proofs.rows.row_of.Goals as goal
+
+pub returns : goal.returns
+returns c =
+    row_made _ (omega (arith, c.word_of-low.type_inv)) (omega (arith, c.word_of-high.type_inv))
+    c.word_of-low.ensures c.word_of-high.ensures
