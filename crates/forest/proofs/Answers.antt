@@ -1,6 +1,6 @@
 -- Each way out of `forest` keeps its promise: which check decided, and what the answer then means. Assumes nothing.
 use mathlib.Core.Path.{◌≡◌, refl, sym, ◌∙◌, ap, subst}
-use mathlib.Core.Bool.{Bool, not}
+use mathlib.Core.Bool.{Bool}
 use mathlib.Core.List.{List, [], ◌∷◌, ◌++◌}
 use Prim.Native.Nat.{ℕ, ◌*◌, ◌<◌, ◌≤◌}
 use native.Mathlib.Nat.{le_trans, mul-le-mul_left, mul-le-mul_right}
@@ -11,7 +11,6 @@ use Rattle.bits.proofs.Truth.{not_in, not_off}
 use Rattle.graph.specs.declared.Quad.{Quad}
 use Rattle.graph.specs.declared.First.{First}
 use Rattle.graph.specs.declared.First.TheVariants.{At, Clear}
-use Rattle.graph.specs.declared.Finding.{Finding}
 use Rattle.graph.specs.declared.Finding.TheVariants.{Fine, Fault}
 use Rattle.graph.specs.Each.{each}
 use Rattle.graph.specs.Graph.{IsGraph, edge}
@@ -22,7 +21,7 @@ use Rattle.graph.proofs.Refusals.{first_of_here, first_of_next, first_of_single,
 use Rattle.graph.proofs.Quads.{clear_clean}
 use Rattle.forest.specs.declared.Answer.{Answer}
 use Rattle.forest.specs.declared.Answer.TheVariants.{Refused, Spoiled, Forest}
-use Rattle.forest.specs.Order.{parent, nobody}
+use Rattle.forest.specs.Order.{parent}
 use Rattle.forest.specs.Forest.{roots}
 use Rattle.forest.specs.Answer.{Promise, Meant, checks, refusal}
 use Rattle.forest.proofs.Listed.{grown}

@@ -1,6 +1,6 @@
 -- Any two answers of `forest`, and any two lists that it leaves, that its promise allows for one input are equal.
 -- Assumes nothing.
-use mathlib.Core.Path.{◌≡◌, refl, sym, ◌∙◌}
+use mathlib.Core.Path.{◌≡◌, sym, ◌∙◌}
 use Prim.Native.Nat.{ℕ}
 use native.Mathlib.Omega.{arith}
 use mathlib.Core.List.{List}
@@ -9,8 +9,7 @@ use Rattle.graph.specs.declared.First.TheVariants.{At}
 use Rattle.graph.proofs.Quads.{at_spoils}
 use Rattle.forest.specs.declared.Answer.{Answer}
 use Rattle.forest.specs.declared.Answer.TheVariants.{Refused, Spoiled, Forest}
-use Rattle.forest.specs.Forest.{roots, parent_in}
-use Rattle.forest.specs.Answer.{Promise, Grown, Meant, refusal}
+use Rattle.forest.specs.Answer.{Promise, Meant, refusal}
 
 module _ (n : ℕ) (g out : List ℕ) where
   same : (r s : Answer) (a b : List ℕ) → refusal r ≡ refusal s → Meant n g out r a → Meant n g out s b → (r ≡ s) × (a ≡ b)

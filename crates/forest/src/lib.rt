@@ -1,4 +1,6 @@
 // The forest of a clean graph: its entry point, over the recogniser that takes one vertex at a time.
+#![tactic(auto)]
+
 ghost use Rattle.std.specs.Prelude.{◌≡◌, ◌++◌, [], ◌∷◌, ◌*◌, ◌≤◌, ◌<◌, length, get_or, take, drop, eqb};
 ghost use Rattle.bits.specs.Choice.{count};
 ghost use Rattle.graph.specs.Each.{each};

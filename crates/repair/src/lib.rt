@@ -1,4 +1,6 @@
 // The cheapest repair of a graph: both engines, the bound, and the better of two lists.
+#![tactic(auto)]
+
 ghost use Rattle.std.specs.Prelude.{◌≡◌};
 ghost use Rattle.repair.specs.Better.{shown, smaller};
 

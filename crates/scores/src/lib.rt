@@ -1,4 +1,5 @@
 // Scores: the scale, the graph and the prices of scores, and the sheet that carries them.
+#![tactic(auto)]
 
 ghost use Rattle.std.specs.Prelude.{◌≡◌, ◌++◌, ◌≤◌, length, drop};
 ghost use Rattle.scores.specs.Scale.{half};
