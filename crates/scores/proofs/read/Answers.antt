@@ -12,7 +12,7 @@ use Rattle.scores.proofs.read.Goals as goal
 
 pub returns-in-Fault : goal.returns-in-Fault
 returns-in-Fault c =
-    refused_sheet c.args.sheet.now c.args.scores.now (sym c.number-1.given.1 ∙ c.sheet_fault.ensures)
+    refused_sheet c.args.sheet.now c.args.scores.now (sym c.in-Fault.is ∙ c.sheet_fault.ensures)
 
 pub size_of-n-requires : goal.size_of-n-requires
 size_of-n-requires c =
@@ -22,12 +22,12 @@ size_of-n-requires c =
 pub half_of-requires : goal.half_of-requires
 half_of-requires c =
     let right = sym c.in_default.is ∙ c.sheet_fault.ensures in
-    omega (arith, (sound c.args.sheet.now right).0.few, c.type_size.ensures)
+    omega (arith, (sound c.args.sheet.now right).0.few, c.size_of-n.ensures)
 
 pub returns-then-scores-half_of : goal.returns-then-scores-half_of
 returns-then-scores-half_of c =
     let right = sym c.in_default.is ∙ c.sheet_fault.ensures in
-    let h = c.half_of.ensures ∙ ap half c.type_size.ensures in
+    let h = c.half_of.ensures ∙ ap half c.size_of-n.ensures in
     refused_room c.args.sheet.now c.args.scores.now right (subst (λ (x : ℕ). length c.args.scores.now < x) h c.if-scores-half_of.true)
 
 pub notes_of-p-requires : goal.notes_of-p-requires
@@ -44,7 +44,7 @@ pub take_scores-requires : goal.take_scores-requires
 take_scores-requires c =
     let right = sym c.in_default.is ∙ c.sheet_fault.ensures in
     let ok = (sound c.args.sheet.now right).0 in
-    let n = c.type_size.ensures in
+    let n = c.size_of-n.ensures in
     let p = c.notes_of-p.ensures in
     record {
       n_bound = omega (arith, ok.few);
@@ -56,6 +56,6 @@ pub returns : goal.returns
 returns c =
     let right = sym c.in_default.is ∙ c.sheet_fault.ensures in
     let t = c.threshold_of-t in
-    let h = c.half_of.ensures ∙ ap half c.type_size.ensures in
+    let h = c.half_of.ensures ∙ ap half c.size_of-n.ensures in
     read_all c.args.sheet.now c.args.scores.now right (subst (λ (x : ℕ). x ≤ length c.args.scores.now) h c.if-scores-half_of.false)
-    c.notes_of-p.ensures c.type_size.ensures (back t.result t.type-inv ∙ t.ensures) c.take_scores.ensures
+    c.notes_of-p.ensures c.size_of-n.ensures (back t.result t.type_inv ∙ t.ensures) c.take_scores.ensures

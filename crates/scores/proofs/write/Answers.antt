@@ -12,7 +12,7 @@ use Rattle.scores.proofs.write.Goals as goal
 pub returns-in-Fault : goal.returns-in-Fault
 returns-in-Fault c =
     let same = to_z-of_z w16 c.args.t c.ranges.t in
-    let e = sym c.number-1.given.1 ∙ c.write_fault.ensures ∙ ap (write_fault c.args.notes.now c.args.scores.now c.args.n) same in
+    let e = sym c.in-Fault.is ∙ c.write_fault.ensures ∙ ap (write_fault c.args.notes.now c.args.scores.now c.args.n) same in
     refused_write c.args.notes.now c.args.scores.now c.args.n c.args.t c.args.buf.now e
 
 pub length_of-size-requires : goal.length_of-size-requires

@@ -16,11 +16,11 @@ returns-then-i-j c =
 
 pub bounds-scores-spot_of : goal.bounds-scores-spot_of
 bounds-scores-spot_of c =
-    omega (arith, c.requires.scores_len, c.spot_of_lem.ensures.1)
+    omega (arith, c.requires.scores_len, c.spot_of.ensures.1)
 
 pub returns : goal.returns
 returns c =
-    let k = c.spot_of_lem in
+    let k = c.spot_of in
     let z : ℤ = get_or c.args.scores.now k.result (pos 0) in
     let t : ℤ = c.args.t in
     c.price.ensures

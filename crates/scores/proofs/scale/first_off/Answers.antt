@@ -16,12 +16,12 @@ loop-k-init c =
 pub returns-then-not-on_scale : goal.returns-then-not-on_scale
 returns-then-not-on_scale c =
     let same = ap on_scale (back (get_or c.args.scores.now c.loop-k.k (pos 0)) c.on_scale-arg-1.given) in
-    off_here _ c.loop-k-test.true c.loop-k.invariant.1 (sym same ∙ sym c.on_scale.ensures ∙ not-true _ c.if-not-on_scale.true)
+    off_here _ c.loop-k-test.true c.loop-k.invariant.1 (sym same ∙ sym c.on_scale.ensures ∙ c.if-not-on_scale.true)
 
 pub loop-k-preserved : goal.loop-k-preserved
 loop-k-preserved c =
     let same = ap on_scale (back (get_or c.args.scores.now c.loop-k.k (pos 0)) c.on_scale-arg-1.given) in
-    (search rules, before_more _ _ c.loop-k.invariant.1 (sym same ∙ sym c.on_scale.ensures ∙ not-false _ c.if-not-on_scale.false))
+    (search rules, before_more _ _ c.loop-k.invariant.1 (sym same ∙ sym c.on_scale.ensures ∙ c.if-not-on_scale.false))
 
 pub returns : goal.returns
 returns c =

@@ -16,15 +16,15 @@ pub returns-then-not-on_scale : goal.returns-then-not-on_scale
 unfolding score_at
 returns-then-not-on_scale c =
     let s = c.signed2 in
-    let same = ap on_scale (back s.result s.type-inv ∙ s.ensures) in
-    off_here _ c.loop-k-test.true c.loop-k.invariant.1 (sym same ∙ sym c.on_scale.ensures ∙ not-true _ c.if-not-on_scale.true)
+    let same = ap on_scale (back s.result s.type_inv ∙ s.ensures) in
+    off_here _ c.loop-k-test.true c.loop-k.invariant.1 (sym same ∙ sym c.on_scale.ensures ∙ c.if-not-on_scale.true)
 
 pub loop-k-preserved : goal.loop-k-preserved
 unfolding score_at
 loop-k-preserved c =
     let s = c.signed2 in
-    let same = ap on_scale (back s.result s.type-inv ∙ s.ensures) in
-    (search rules, before_more _ _ c.loop-k.invariant.1 (sym same ∙ sym c.on_scale.ensures ∙ not-false _ c.if-not-on_scale.false))
+    let same = ap on_scale (back s.result s.type_inv ∙ s.ensures) in
+    (search rules, before_more _ _ c.loop-k.invariant.1 (sym same ∙ sym c.on_scale.ensures ∙ c.if-not-on_scale.false))
 
 pub returns : goal.returns
 returns c =

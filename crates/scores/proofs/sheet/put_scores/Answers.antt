@@ -27,7 +27,7 @@ loop-k-preserved c =
     let z : ℤ = get_or c.args.scores.now l.k (pos 0) in
     let b = c.bits_of-v in
     let e = b.ensures ∙ ap (of_z w16) (back z c.bits_of-arg-1.given) in
-    (omega arith, c.put2.ensures ∙ one_score c.args.buf.now c.args.scores.now c.requires l.k b.result l.invariant.1 c.loop-k-test.true b.type-inv e)
+    (omega arith, c.put2.ensures ∙ one_score c.args.buf.now c.args.scores.now c.requires l.k b.result l.invariant.1 c.loop-k-test.true b.type_inv e)
 
 pub shape_of-buf : goal.shape_of-buf
 shape_of-buf c =

@@ -22,4 +22,4 @@ returns c =
     let e₂ = c.put2-2.ensures ∙ ap (λ (x : List ℕ). two x 2 0) e₁ in
     let e₃ = c.put2-3.ensures ∙ ap (λ (x : List ℕ). two x 4 n) e₂ in
     c.put2-4.ensures ∙ ap (λ (x : List ℕ). two x 6 b.result) e₃
-    ∙ put_all buf p n b.result c.args.t c.requires.in_bounds c.requires.p_bound c.requires.n_bound b.type-inv e
+    ∙ put_all buf p n b.result c.args.t c.requires.in_bounds c.requires.p_bound c.requires.n_bound b.type_inv e

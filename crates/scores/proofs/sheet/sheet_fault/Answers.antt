@@ -32,7 +32,7 @@ pub off_scale-requires : goal.off_scale-requires
 off_scale-requires c =
     let right = sym c.in_default.is ∙ c.layout_fault-found.ensures in
     let ok = laid c.args.sheet.now right in
-    let z = c.type_size.ensures in
+    let z = c.size_of.ensures in
     let p = c.notes_of.ensures in
     record {
       n_bound = omega (arith, ok.few);
@@ -45,7 +45,7 @@ returns-then-on_scale c =
     let right = sym c.in_default.is ∙ c.layout_fault-found.ensures in
     let t = back c.threshold_of.result c.threshold_of.type_inv ∙ c.threshold_of.ensures in
     let on = sym (ap on_scale t) ∙ sym c.on_scale.ensures in
-    let z = c.type_size.ensures in
+    let z = c.size_of.ensures in
     let p = c.notes_of.ensures in
     scores_decide c.args.sheet.now right (on ∙ c.if-on_scale.true) _ (c.off_scale.ensures ∙ ap₂ (λ (x y : ℕ). scores_off y (scores_in c.args.sheet.now x y)) p z)
 
