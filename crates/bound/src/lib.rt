@@ -1,4 +1,6 @@
 // The packing bound: the working table of costs, the walk by masks, and the entry point.
+#![tactic(auto)]
+
 ghost use Rattle.std.specs.Prelude.{◌≡◌, ◌*◌, ◌≤◌, length};
 ghost use Rattle.graph.specs.declared.Finding.TheVariants.{Fine};
 ghost use Rattle.graph.specs.Check.{entries};

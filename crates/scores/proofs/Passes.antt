@@ -18,7 +18,7 @@ use Rattle.graph.proofs.CheckLaws.{inside}
 use Rattle.graph.proofs.Grid.{fine_grid}
 use Rattle.graph.proofs.Reading.{small_good, entry_fine, fine_entries}
 use Rattle.scores.specs.Scale.{on_scale, edge_of, price_of, score_of, scores_off, edge_byte, price_entry, square}
-use Rattle.scores.specs.Drawing.{checks, Promise}
+use Rattle.scores.specs.Drawing.{Promise}
 use Rattle.scores.proofs.ScoreFaults.{score_mirror, scores_on}
 use Rattle.scores.proofs.Drawings.{promised}
 use Rattle.scores.proofs.Squares.{length_square, square_at}

@@ -1,5 +1,5 @@
 -- `notes` meets its contract: the first p bytes of a sheet that the reader takes. Assumes nothing.
-use Prim.Native.Nat.{ℕ, ◌-◌}
+use Prim.Native.Nat.{ℕ}
 use lib.ListN.{take}
 use mathlib.Core.Path.{sym, ◌∙◌, ap}
 use native.Mathlib.Nat.{sub-zero}

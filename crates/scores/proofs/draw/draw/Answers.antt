@@ -1,4 +1,4 @@
-use Prim.Native.Nat.{ℕ, ◌*◌, ◌-◌, ◌≤◌}
+use Prim.Native.Nat.{ℕ, ◌*◌, ◌≤◌}
 use lib.IntN.{ℤ}
 use lib.Seq.{paste, paste-zero}
 use mathlib.Core.List.{List}

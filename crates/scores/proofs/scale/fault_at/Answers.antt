@@ -1,7 +1,7 @@
-use Prim.Native.Nat.{◌-◌}
+use Rattle.std.proofs.Common.{rules}
 use native.Mathlib.Omega.{arith}
 use Rattle.scores.proofs.Places.{some_row, next_row}
-use Rattle.scores.specs.Scale.{earlier}
+use Rattle.scores.specs.Scale.{earlier, place}
 use Rattle.scores.proofs.scale.fault_at.Goals as goal
 
 pub loop-i-init : goal.loop-i-init
@@ -22,3 +22,7 @@ loop-i-preserved c =
     let l = c.loop-i in
     let next = next_row c.args.n l.i c.args.k l.invariant.0 c.requires.k_bound (omega arith) in
     (next.0, omega arith)
+
+pub returns : goal.returns
+unfolding place
+returns c = search rules

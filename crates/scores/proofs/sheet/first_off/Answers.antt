@@ -1,6 +1,4 @@
 use Rattle.std.proofs.Common.{rules}
-use Prim.Native.Nat.{◌-◌}
-use borrow.Author.Tests.{not-true, not-false}
 use mathlib.Core.Path.{sym, ◌∙◌, ap}
 use Rattle.scores.proofs.Complement.{back}
 use Rattle.scores.proofs.Offs.{before_zero, before_more, off_here, off_nowhere}

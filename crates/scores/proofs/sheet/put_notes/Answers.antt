@@ -1,4 +1,3 @@
-use Prim.Native.Nat.{◌-◌}
 use lib.Seq.{paste-zero}
 use mathlib.Core.Path.{refl}
 use native.Mathlib.Omega.{arith}

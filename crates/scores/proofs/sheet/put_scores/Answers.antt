@@ -1,4 +1,4 @@
-use Prim.Native.Nat.{◌*◌, ◌-◌}
+use Prim.Native.Nat.{◌*◌}
 use lib.IntN.{ℤ, pos}
 use lib.ListN.{get_or}
 use lib.Seq.{paste-zero}

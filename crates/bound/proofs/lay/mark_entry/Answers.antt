@@ -1,0 +1,7 @@
+-- `bound::lay::mark_entry` meets its contract: one word is stored with one bit more. Assumes nothing.
+use Rattle.bound.proofs.Laying.{marked_entry}
+use Rattle.bound.proofs.lay.mark_entry.Goals as goal
+
+pub returns : goal.returns
+returns c =
+    marked_entry _ _ c.requires.1 c.requires.2 _ c.requires.0 _ _ c.flipped.ensures c.either.ensures
