@@ -14,7 +14,7 @@ pub mod prices;
 use graph::Finding;
 
 // What `bound` answers: a refusal with its number and place, or the packing bound.
-#[derive(Drop)]
+#[derive(Clone, Copy)]
 pub enum Answer {
     Refused {
         number: u32,

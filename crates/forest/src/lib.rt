@@ -16,7 +16,7 @@ use graph::{Finding, First};
 
 // What `forest` answers: a refusal with its number and place; the first quad of a graph that is not clean; or a forest,
 // with the number of its groups.
-#[derive(Drop)]
+#[derive(Clone, Copy)]
 pub enum Answer {
     Refused {
         number: u32,

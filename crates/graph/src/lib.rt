@@ -6,7 +6,7 @@ pub mod rows;
 pub mod seek;
 
 // What a check finds: nothing, or a number of the table with its place.
-#[derive(Drop)]
+#[derive(Clone, Copy)]
 pub enum Finding {
     Fine,
     Fault {
@@ -17,7 +17,7 @@ pub enum Finding {
 }
 
 // Four vertices a, b, c, d that spoil a graph: an induced path or cycle.
-#[derive(Drop)]
+#[derive(Clone, Copy)]
 pub struct Quad {
     pub a: usize,
     pub b: usize,
@@ -26,7 +26,7 @@ pub struct Quad {
 }
 
 // The first quad in listing order, or none: the graph is clean.
-#[derive(Drop)]
+#[derive(Clone, Copy)]
 pub enum First {
     At(Quad),
     Clear,

@@ -8,7 +8,7 @@ mod sheet;
 mod text;
 
 // What `report` answers: a refusal with its number and place, or the length of the lines.
-#[derive(Drop)]
+#[derive(Clone, Copy)]
 pub enum Answer {
     Refused {
         number: u32,

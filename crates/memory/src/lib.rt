@@ -1,5 +1,6 @@
 // The search's working memory and what a node does with it: the path, the table of costs, the tally and the repair that is
 // kept.
+#![tactic(auto)]
 
 pub mod leaf;
 pub mod table;
@@ -7,7 +8,7 @@ pub mod trail;
 
 // "One running tally": the steps, the limit, and one more than the number of pairs of the repair that is kept, 0 where none
 // is. Where the tree has too many nodes the steps are one above the step limit.
-#[derive(Drop)]
+#[derive(Clone, Copy)]
 pub struct Tally {
     pub steps: u64,
     pub limit: u32,

@@ -16,7 +16,7 @@ mod sheet;
 mod signed;
 
 // What `read` answers: a refusal with its number and place, or the sheet's p, n and t.
-#[derive(Drop)]
+#[derive(Clone, Copy)]
 pub enum Reading {
     Refused {
         number: u32,
@@ -31,7 +31,7 @@ pub enum Reading {
 }
 
 // What `write` answers: a refusal with its number and place, or the sheet's length.
-#[derive(Drop)]
+#[derive(Clone, Copy)]
 pub enum Writing {
     Refused {
         number: u32,

@@ -17,7 +17,7 @@ pub mod tree;
 
 // What an engine answers: a refusal with its number and place; 9, more nodes than the step limit; 8, no repair within the
 // budget; or the cheapest repair, whose pairs are the lent list's first entries.
-#[derive(Drop)]
+#[derive(Clone, Copy)]
 pub enum Answer {
     Refused {
         number: u32,
