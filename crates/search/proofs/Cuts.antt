@@ -7,7 +7,6 @@ use lib.Dec.{ltb}
 use Rattle.graph.specs.Graph.{word_edge}
 use Rattle.graph.specs.Quad.{quads}
 use Rattle.walk.specs.Walk.{plain}
-use Rattle.repair.specs.Better.{price}
 use Rattle.repair.specs.Packing.{packing}
 use Rattle.repair.specs.Tree.{Node, present, free, pruned, engine}
 use Rattle.bound.specs.Table.{toll_at, free_at}

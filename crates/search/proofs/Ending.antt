@@ -4,7 +4,7 @@ use mathlib.Core.Logic.{◌⊎◌, inl, inr}
 use mathlib.Core.Bool.{Bool, true, false}
 use mathlib.Core.List.{List, ◌++◌}
 use mathlib.Core.Option.{Option, none, some}
-use Prim.Native.Nat.{ℕ, ◌+◌, ◌-◌, ◌≤◌, ◌<◌}
+use Prim.Native.Nat.{ℕ, ◌-◌, ◌≤◌, ◌<◌}
 use native.Mathlib.Omega.{arith}
 use borrow.Author.Tests.{lt-ltb, le-ltb, eq-eqb, ne_eqb}
 use lib.Dec.{ltb, eqb}
@@ -14,7 +14,6 @@ use Rattle.bits.proofs.Truth.{below, pick_true, pick_false}
 use Rattle.graph.specs.declared.Finding.TheVariants.{Fine, Fault}
 use Rattle.graph.specs.Refusal.{first_of}
 use Rattle.graph.specs.Graph.{IsGraph, edge}
-use Rattle.walk.specs.Problem as problem
 use Rattle.walk.specs.Best.{IsBest, limit_of}
 use Rattle.repair.specs.Repair.{Repair, toll_of}
 use Rattle.repair.specs.Tree.{order, walked, searched}

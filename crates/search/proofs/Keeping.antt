@@ -5,7 +5,7 @@ use mathlib.Core.Logic.{◌⊎◌, inl, inr}
 use mathlib.Core.Bool.{true, false, ◌&&◌, ◌||◌}
 use mathlib.Core.List.{List, ◌++◌}
 use mathlib.Core.Option.{Option, none, some}
-use Prim.Native.Nat.{ℕ, suc, ◌+◌, ◌-◌}
+use Prim.Native.Nat.{ℕ, suc, ◌-◌}
 use native.Mathlib.Numerals.{add-one}
 use native.Mathlib.Omega.{arith}
 use borrow.Author.Tests.{eq-eqb, ne_eqb}
@@ -14,7 +14,6 @@ use lib.ListN.{length, take, drop}
 use lib.Seq.{take-append_seam}
 use Rattle.bits.specs.Choice.{pick}
 use Rattle.bits.proofs.Truth.{which, or_left, pick_true, pick_false}
-use Rattle.walk.specs.Problem as problem
 use Rattle.walk.specs.Best.{keep_better, limit_of}
 use Rattle.repair.specs.Better.{smaller, price, better}
 use Rattle.repair.specs.Tree.{order}

@@ -9,7 +9,6 @@ use native.Mathlib.Omega.{arith}
 use borrow.Author.Tests.{ltb-true, lt-ltb}
 use lib.ListN.{length, get_or, set, length-set}
 use lib.Seq.{get_or-set_same, get_or-set_other}
-use Rattle.bits.specs.Choice.{count}
 use Rattle.bits.proofs.Truth.{equal}
 use Rattle.graph.specs.Price.{fixed}
 use Rattle.graph.specs.Graph.{word_edge}

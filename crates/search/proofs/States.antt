@@ -14,7 +14,6 @@ use Rattle.graph.specs.Price.{fixed}
 use Rattle.graph.specs.Graph.{flipped}
 use Rattle.graph.specs.Rows.{Toggled}
 use Rattle.repair.specs.Pair.{is_pair, member, pair_of}
-use Rattle.repair.specs.Better.{price}
 use Rattle.repair.specs.Repair.{toggled}
 use Rattle.repair.specs.Tree.{insert, Node, present, free, mark, add}
 use Rattle.repair.proofs.Sets.{member_here, member_there}

@@ -1,4 +1,6 @@
 // The two engines, plain and pruned: the cheapest repair of a graph by document 01's search tree.
+#![tactic(auto)]
+
 ghost use Rattle.std.specs.Prelude.{◌≡◌, true, false, [], ◌∷◌, ℕ, suc, ◌*◌, ◌≤◌, ◌<◌, length};
 ghost use Rattle.graph.specs.declared.Finding.TheVariants.{Fine, Fault};
 ghost use Rattle.graph.specs.Refusal.{first_of};
