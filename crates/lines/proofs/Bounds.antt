@@ -1,16 +1,16 @@
 -- How long the lines are at most: a number below 10^k has at most k digits, so 131,072 bytes are room for every page.
 -- Assumes nothing.
-use mathlib.Core.Path.{◌≡◌, refl, sym, ◌∙◌, ap}
+use mathlib.Core.Path.{◌≡◌, ◌∙◌, ap}
 use mathlib.Core.Logic.{◌⊎◌, inl, inr}
 use mathlib.Core.Bool.{Bool, true, false}
 use mathlib.Core.List.{List, [], ◌∷◌, ◌++◌}
 use Prim.Native.Nat.{ℕ, zero, suc, ◌+◌, ◌*◌, ◌/◌, ◌%◌, ◌≤◌, ◌<◌}
-use native.Mathlib.Nat.{suc-mul, mul-le-mul_right}
+use native.Mathlib.Nat.{suc-mul}
 use native.Mathlib.Omega.{arith}
 use lib.ListN.{length, get_or, length-append}
 use lib.Dec.{eqb}
-use borrow.Author.Tests.{eqb-true, eqb-false}
-use Rattle.bits.specs.Choice.{pick, count}
+use borrow.Author.Tests.{eqb-false}
+use Rattle.bits.specs.Choice.{pick}
 use Rattle.bits.proofs.Truth.{below, which, pick_true, pick_false}
 use Rattle.bits.proofs.Counting.{count_le}
 use Rattle.graph.specs.Each.{each}

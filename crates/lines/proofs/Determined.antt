@@ -1,10 +1,10 @@
 -- The promise of `report` settles the answer and the text: two answers that it allows for one input are equal, and so is what
 -- they leave. The best repair is unique, so a sheet has one page. Assumes nothing.
-use mathlib.Core.Path.{◌≡◌, refl, sym, ◌∙◌, ap, subst}
-use mathlib.Core.Logic.{◌⊎◌, inl, inr}
+use mathlib.Core.Path.{◌≡◌, sym, ◌∙◌, ap, subst}
+use mathlib.Core.Logic.{inl, inr}
 use mathlib.Core.Bool.{Bool}
 use mathlib.Core.List.{List, [], ◌∷◌}
-use Prim.Native.Nat.{ℕ, ◌<◌, ◌≤◌}
+use Prim.Native.Nat.{ℕ}
 use native.Mathlib.Omega.{arith}
 use lib.ListN.{length}
 use Rattle.graph.specs.declared.Finding.{Finding}
@@ -14,7 +14,7 @@ use Rattle.graph.specs.Check.{too_short}
 use Rattle.repair.proofs.Orders.{better_total}
 use Rattle.lines.specs.declared.Answer.{Answer}
 use Rattle.lines.specs.declared.Answer.TheVariants.{Refused, Written}
-use Rattle.lines.specs.Report.{Searched, Mended, Stopped, page_of, Said, Lines, fault, refusal, Meant, Promise}
+use Rattle.lines.specs.Report.{Searched, Mended, page_of, Said, Lines, fault, refusal, Meant, Promise}
 
 module _ (n : ℕ) (e : ℕ → ℕ → Bool) (toll : ℕ → ℕ) where
   same_repair_lem : {a b : List ℕ} (x : Mended n e toll a) (y : Mended n e toll b) → x.repair ≡ y.repair

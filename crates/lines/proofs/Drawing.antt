@@ -1,9 +1,9 @@
 -- The graph and the prices of scores that pass their checks: they are drawn, they pass the checks of the search, and no pair is
 -- fixed. Assumes nothing.
 use mathlib.Core.Path.{◌≡◌, refl, sym, ◌∙◌, ap, subst}
-use mathlib.Core.List.{List, [], ◌++◌, append-nil}
+use mathlib.Core.List.{List, ◌++◌, append-nil}
 use mathlib.Core.Bool.{true}
-use Prim.Native.Nat.{ℕ, zero, suc, ◌+◌, ◌*◌, ◌-◌, ◌/◌, ◌%◌, ◌≤◌, ◌<◌}
+use Prim.Native.Nat.{ℕ, zero, suc, ◌*◌, ◌-◌, ◌/◌, ◌%◌, ◌≤◌}
 use native.Mathlib.Nat.{div-add-mod', mul-sub, mul-one, suc-mul, mul-le-mul}
 use native.Mathlib.Omega.{arith}
 use lib.ListN.{length, get_or, take, drop, drop_of_length-le}
@@ -25,7 +25,7 @@ use Rattle.scores.proofs.Squares.{length_square}
 use Rattle.scores.proofs.Passes.{graph_passes, prices_pass, prices_free}
 use Rattle.lines.specs.Inner.{Checked, Ready, Paged}
 use Rattle.lines.specs.Report.{Searched}
-use Rattle.lines.proofs.Mending.{pair_inside, pair_two}
+use Rattle.lines.proofs.Mending.{pair_two}
 
 module _ (n : ℕ) (t : ℤ) (scores : List ℤ) (g ps : List ℕ) (ready : Ready n t scores g ps) where
   no_fault : first_of (checks n t scores g ps) ≡ Fine

@@ -4,20 +4,19 @@ use mathlib.Core.Path.{◌≡◌, refl, sym, ◌∙◌, ap, fun_ext}
 use mathlib.Core.Logic.{◌⊎◌, inl, inr, ◌≢◌}
 use mathlib.Core.Bool.{Bool, true, false, not, ◌&&◌, ◌||◌}
 use mathlib.Core.List.{List}
-use Prim.Native.Nat.{ℕ, suc, ◌+◌, ◌*◌, ◌/◌, ◌%◌, ◌≤◌, ◌<◌}
+use Prim.Native.Nat.{ℕ, ◌+◌, ◌*◌, ◌/◌, ◌%◌, ◌≤◌, ◌<◌}
 use native.Mathlib.Nat.{div-add-mod', mul-add-div_right, mul-add-mod_self_right, div-eq_of_lt, mod-eq_of_lt, suc-mul, mul-le-mul_right}
 use native.Mathlib.Omega.{arith}
-use lib.ListN.{length, get_or, set, length-set}
+use lib.ListN.{length, get_or, length-set}
 use lib.Seq.{ext_get_or, get_or-set_same, get_or-set_other}
 use lib.Dec.{eqb}
-use borrow.Author.Tests.{eqb-true, eqb-false, eq-eqb, ne_eqb}
+use borrow.Author.Tests.{eqb-true, eq-eqb}
 use Rattle.bits.specs.Choice.{pick}
 use Rattle.bits.proofs.Truth.{never, which, same, equal, fails, and_in, and_left, and_right, pick_true, pick_false}
 use Rattle.graph.specs.declared.Finding.TheVariants.{Fine}
-use Rattle.graph.specs.Graph.{IsGraph, edge, is_pair, flipped}
+use Rattle.graph.specs.Graph.{IsGraph, edge, flipped}
 use Rattle.graph.specs.Check.{entries}
 use Rattle.graph.proofs.Reading.{small_good, entry_fine, fine_entries, edge_value, value_edge, entries_small}
-use Rattle.scores.specs.Scale.{square}
 use Rattle.scores.proofs.Squares.{length_square, square_at, row_column}
 use Rattle.lines.specs.Inner.{drawn_of, turned}
 

@@ -4,7 +4,7 @@ use mathlib.Core.Path.{◌≡◌, refl, sym, ◌∙◌, ap, subst}
 use mathlib.Core.Logic.{◌⊎◌, inl, inr, ◌≢◌}
 use mathlib.Core.Bool.{Bool, true, false}
 use mathlib.Core.List.{List, [], ◌∷◌, ◌++◌}
-use Prim.Native.Nat.{ℕ, zero, suc, ◌*◌, ◌≤◌, ◌<◌}
+use Prim.Native.Nat.{ℕ, zero, suc, ◌≤◌, ◌<◌}
 use native.Mathlib.Omega.{arith}
 use lib.ListN.{length}
 use lib.IntN.{ℤ}
@@ -17,7 +17,7 @@ use Rattle.graph.specs.declared.Finding.TheVariants.{Fine, Fault}
 use Rattle.graph.specs.Each.{each, only}
 use Rattle.graph.specs.Refusal.{row, first_of}
 use Rattle.graph.specs.Check.{too_many, too_short}
-use Rattle.graph.specs.Graph.{IsGraph, edge}
+use Rattle.graph.specs.Graph.{edge}
 use Rattle.graph.proofs.Leading.{first_of_leading, fault_not_fine}
 use Rattle.graph.proofs.Reading.{entries_graph}
 use Rattle.graph.proofs.Refusals.{first_of_single, first_of_fine, row_passes}
@@ -36,7 +36,7 @@ use Rattle.lines.specs.Report.{limit, nodes, page_of, fault, graph_of, prices_of
 use Rattle.lines.specs.declared.Answer.{Answer}
 use Rattle.lines.specs.declared.Answer.TheVariants.{Refused, Written}
 use Rattle.lines.specs.Inner.{Checked}
-use Rattle.lines.proofs.Bounds.{page_short, refusal_short, stopped_short, tens}
+use Rattle.lines.proofs.Bounds.{page_short, refusal_short, stopped_short}
 use Rattle.lines.proofs.Mending.{listed_inside}
 use Rattle.lines.proofs.Drawing.{squares_checked}
 

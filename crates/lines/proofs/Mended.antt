@@ -1,5 +1,5 @@
 -- The bytes with the listed pairs toggled are the repaired graph's, and pass the checks. Assumes nothing.
-use mathlib.Core.Path.{◌≡◌, sym, ◌∙◌, ap, subst}
+use mathlib.Core.Path.{◌≡◌, ◌∙◌, ap}
 use mathlib.Core.Bool.{Bool}
 use mathlib.Core.List.{List}
 use Prim.Native.Nat.{ℕ, ◌*◌}

@@ -1,16 +1,16 @@
 -- The listed pairs toggled one by one: a pair that is not listed before is one more flip. Assumes nothing.
 use mathlib.Core.Path.{◌≡◌, refl, sym, ◌∙◌, ap, ap₂, fun_ext}
-use mathlib.Core.Logic.{◌⊎◌, inl, inr, ◌≢◌}
+use mathlib.Core.Logic.{◌⊎◌, inl, inr}
 use mathlib.Core.Bool.{Bool, true, false, ◌||◌, or_comm}
 use mathlib.Core.List.{List, [], ◌∷◌, ◌++◌}
-use Prim.Native.Nat.{ℕ, zero, suc, ◌+◌, ◌*◌, ◌/◌, ◌%◌, ◌≤◌, ◌<◌, min, max}
+use Prim.Native.Nat.{ℕ, zero, suc, ◌+◌, ◌*◌, ◌/◌, ◌%◌, ◌<◌, min, max}
 use native.Mathlib.Nat.{div-add-mod'}
 use native.Mathlib.Omega.{arith}
 use lib.ListN.{length, get_or, take}
 use lib.Dec.{ltb, eqb}
 use borrow.Author.Tests.{ltb-true}
 use Rattle.bits.proofs.Truth.{never, fails, and_left, and_right}
-use Rattle.graph.specs.Graph.{IsGraph, edge, flipped}
+use Rattle.graph.specs.Graph.{flipped}
 use Rattle.repair.specs.Pair.{pair_of, is_pair, member, all, ascending}
 use Rattle.repair.specs.Repair.{toggled}
 use Rattle.repair.specs.Tree.{insert}

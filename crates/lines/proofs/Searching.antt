@@ -2,17 +2,17 @@
 -- repair, unless it is stopped; and the lines of what it finds. Assumes nothing.
 use mathlib.Core.Path.{◌≡◌, refl, sym, ◌∙◌, ap, ap₂, subst}
 use mathlib.Core.Logic.{inl, inr}
-use mathlib.Core.Bool.{Bool, true}
-use mathlib.Core.List.{List, [], ◌∷◌, ◌++◌}
-use Prim.Native.Nat.{ℕ, ◌+◌, ◌*◌, ◌-◌, ◌/◌, ◌≤◌, ◌<◌}
+use mathlib.Core.Bool.{true}
+use mathlib.Core.List.{List, ◌++◌}
+use Prim.Native.Nat.{ℕ, ◌*◌, ◌-◌, ◌/◌, ◌≤◌}
 use native.Mathlib.Nat.{mul-le-mul}
 use native.Mathlib.Omega.{arith}
-use lib.ListN.{length, get_or, take, drop, length-append}
+use lib.ListN.{length, take, drop, length-append}
 use lib.Seq.{take_at}
 use borrow.Author.Tests.{le-ltb, eq-eqb}
 use Rattle.bits.proofs.Truth.{and_left, not_off}
 use Rattle.graph.specs.declared.Finding.TheVariants.{Fine}
-use Rattle.graph.specs.Check.{too_many, wrong_length, entries, too_short}
+use Rattle.graph.specs.Check.{too_many, wrong_length, too_short}
 use Rattle.graph.specs.Refusal.{first_of}
 use Rattle.graph.specs.Graph.{IsGraph, edge}
 use Rattle.graph.specs.Quad.{Clean}
@@ -34,7 +34,7 @@ use Rattle.lines.specs.Put.{Put}
 use Rattle.lines.specs.Inner.{drawn_of, Paged, Checked}
 use Rattle.lines.specs.Report as report
 use Rattle.lines.proofs.Behind.{put_as}
-use Rattle.lines.proofs.Bounds.{page_short, tens}
+use Rattle.lines.proofs.Bounds.{page_short}
 use Rattle.lines.proofs.Mending.{listed_inside}
 use Rattle.lines.proofs.Drawn.{fine_drawn}
 

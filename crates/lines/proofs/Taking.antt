@@ -2,8 +2,8 @@
 -- graph and the prices. Assumes nothing.
 use mathlib.Core.Path.{◌≡◌, refl, sym, ◌∙◌, ap, subst}
 use mathlib.Core.Bool.{true}
-use mathlib.Core.List.{List, [], ◌∷◌, ◌++◌}
-use Prim.Native.Nat.{ℕ, ◌-◌, ◌*◌, ◌/◌, ◌≤◌, ◌<◌}
+use mathlib.Core.List.{List}
+use Prim.Native.Nat.{ℕ, ◌≤◌, ◌<◌}
 use native.Mathlib.Omega.{arith}
 use lib.ListN.{length, take, drop}
 use lib.Seq.{take_at}
@@ -18,10 +18,10 @@ use Rattle.repair.specs.Repair.{toll_of}
 use Rattle.scores.specs.declared.Reading.{Reading}
 use Rattle.scores.specs.declared.Reading.TheVariants.{Refused, Sheet}
 use Rattle.scores.specs.Scale.{half, on_scale, scores_off, edge_byte, price_entry, square}
-use Rattle.scores.specs.Sheet.{size_of, threshold_of, notes_of, score_at, scores_of}
+use Rattle.scores.specs.Sheet.{size_of, notes_of, score_at, scores_of}
 use Rattle.scores.specs.Reader.{sheet_fault, no_room, checks, refusal, Filled, Promise}
 use Rattle.scores.proofs.Squares.{length_each}
-use Rattle.scores.proofs.Sheets.{Laid, sound}
+use Rattle.scores.proofs.Sheets.{sound}
 use Rattle.lines.specs.Lines.{refusal_line}
 use Rattle.lines.specs.Put.{Put}
 use Rattle.lines.specs.Inner.{Paged}

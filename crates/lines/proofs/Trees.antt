@@ -1,6 +1,6 @@
 -- The forest of a clean graph that passes its checks: `forest` answers with it, and its list gives each vertex its parent.
 -- Assumes nothing.
-use mathlib.Core.Path.{◌≡◌, refl, sym, ◌∙◌, ap, ap₂, subst}
+use mathlib.Core.Path.{◌≡◌, refl, ◌∙◌, ap, ap₂}
 use mathlib.Core.List.{List, [], ◌∷◌, ◌++◌}
 use Prim.Native.Nat.{ℕ, zero, suc, ◌*◌, ◌≤◌, ◌<◌}
 use native.Mathlib.Omega.{arith}
@@ -23,7 +23,7 @@ use Rattle.forest.specs.Answer.{Promise, Grown, checks}
 use Rattle.forest.specs.Order.{parent}
 use Rattle.forest.specs.Forest.{parent_in, roots}
 use Rattle.forest.proofs.Listed.{length_each, get_d_each, parent_in_parents}
-use Rattle.lines.specs.Lines.{parent_line, parent_lines, groups_line}
+use Rattle.lines.specs.Lines.{parent_line, parent_lines}
 
 -- pieces that are alike make the same list
 pub each_alike : {f g : ℕ → List ℕ} (n : ℕ) → ((k : ℕ) → k < n → f k ≡ g k) → each n f ≡ each n g

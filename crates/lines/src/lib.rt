@@ -1,4 +1,6 @@
 // The lines of the report program: the whole output for any input, in a lent text.
+#![tactic(auto)]
+
 ghost use Rattle.std.specs.Prelude.{◌++◌, ◌≡◌, ◌≤◌, length, drop};
 ghost use Rattle.lines.specs.Report.{Promise};
 
