@@ -1,38 +1,41 @@
 // The deepest search known: n = 128, edge (i, j), i < j, exactly if j - i is not 2, every price 1, k = 81,280,000. The first
 // dive goes 8,000 nodes down, so with these step limits both engines stop at the bottom of it, on the ordinary stack.
-use search::Answer;
+#![tactic(auto)]
 
-fn number(word: &[u8], x: u64) {
-    io::write_all(1, word);
-    io::print_decimal(1, x);
+use search::Answer;
+use std::io;
+
+fn number(rt: &impl Print, word: &[u8], x: u64) -> io::Result<()> {
+    rt.write_all(word)?;
+    rt.print(x)
 }
 
-fn show(name: &[u8], r: Answer) {
-    io::write_all(1, name);
+fn show(rt: &impl Print, name: &[u8], r: Answer) -> io::Result<()> {
+    rt.write_all(name)?;
     match r {
         Answer::Refused {
             number: k,
             row: _,
             column: _,
         } => {
-            number(b" answer ", k as u64);
+            number(rt, b" answer ", k as u64)?;
         }
         Answer::Stopped { steps } => {
-            number(b" answer 9 steps ", steps as u64);
+            number(rt, b" answer 9 steps ", steps as u64)?;
         }
         Answer::Nothing { steps } => {
-            number(b" answer 8 steps ", steps as u64);
+            number(rt, b" answer 8 steps ", steps as u64)?;
         }
         Answer::Repaired {
             price,
             pairs: _,
             steps,
         } => {
-            number(b" answer 0 cost ", price as u64);
-            number(b" steps ", steps as u64);
+            number(rt, b" answer 0 cost ", price as u64)?;
+            number(rt, b" steps ", steps as u64)?;
         }
     }
-    io::write_all(1, b"\n");
+    rt.write_all(b"\n")
 }
 
 fn distance(i: usize, j: usize) -> usize {
@@ -74,25 +77,25 @@ fn ones() -> [u16; 16384] {
     prices
 }
 
-fn plain(most: u32) {
+fn plain(rt: &impl Print, most: u32) -> io::Result<()> {
     let g = edges();
     let prices = ones();
     let mut list = [0u16; 8128];
     let r = search::plain(128, &g, &prices, 81280000, most, &mut list);
-    show(b"plain", r);
+    show(rt, b"plain", r)
 }
 
-fn pruned(most: u32) {
+fn pruned(rt: &impl Print, most: u32) -> io::Result<()> {
     let g = edges();
     let prices = ones();
     let mut list = [0u16; 8128];
     let r = search::pruned(128, &g, &prices, 81280000, most, &mut list);
-    show(b"pruned", r);
+    show(rt, b"pruned", r)
 }
 
-fn main() {
-    plain(8001);
-    plain(8400);
-    pruned(8001);
-    pruned(8400);
+fn main(rt: HostRuntime) -> io::Result<()> {
+    plain(&rt, 8001)?;
+    plain(&rt, 8400)?;
+    pruned(&rt, 8001)?;
+    pruned(&rt, 8400)
 }

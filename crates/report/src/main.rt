@@ -1,14 +1,34 @@
 // Reads a sheet on standard input and prints its report. One byte more than the longest sheet is read, so that longer input
 // is seen.
-use libc::{STDIN_FILENO, STDOUT_FILENO};
-use lines::Answer;
+#![tactic(auto)]
 
-fn main() {
+ghost use Rattle.std.specs.Prelude.{◌≤◌, length, IfOk};
+
+use lines::Answer;
+use std::io;
+use std::io::Read;
+
+// Reads until the sheet is full or the input ends; how many bytes it put at the start.
+fn read_full(input: &mut impl Read, sheet: &mut [u8]) -> io::Result<usize>
+    ensures { IfOk result (λ n. n ≤ length sheet.new) }
+{
+    let mut got = 0;
+    while got < sheet.len() {
+        let n = input.read(&mut sheet[got..])?;
+        if n == 0 {
+            break;
+        }
+        got += n;
+    }
+    Ok(got)
+}
+
+fn main(rt: HostRuntime) -> io::Result<()> {
     let mut sheet = [0u8; 49033];
-    let got = io::read_full(STDIN_FILENO, &mut sheet);
+    let got = read_full(&mut rt.stdin(), &mut sheet)?;
     let mut text = [0u8; 131072];
     let Answer::Written { size } = lines::report(&sheet[..got], &mut text) else {
-        return;
+        return Ok(());
     };
-    io::write_all(STDOUT_FILENO, &text[..size]);
+    rt.write_all(&text[..size])
 }
