@@ -7,7 +7,6 @@ use Prim.Native.Nat.{ℕ}
 use lib.Dec.{eqb}
 use Rattle.bits.specs.Choice.{count}
 use Rattle.bits.proofs.Truth.{and_in, and_left, and_right}
-use Rattle.graph.specs.declared.Quad.{Quad}
 use Rattle.graph.specs.declared.First.{First}
 use Rattle.graph.specs.declared.First.TheVariants.{At, Clear}
 use Rattle.graph.specs.Each.{each, only}
