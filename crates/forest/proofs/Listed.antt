@@ -29,10 +29,10 @@ module _ {A : Type 0} (f : ℕ → A) where
   length_each (suc k) = let below : length (each k (λ v. f v ∷ [])) ≡ k = length_each k in
       length-append (each k (λ v. f v ∷ [])) (f k ∷ []) ∙ omega arith
 
-  pub get_d_each : (n v : ℕ) (d : A) → v < n → get_or (each n (λ v. f v ∷ [])) v d ≡ f v
+  pub get_or_each : (n v : ℕ) (d : A) → v < n → get_or (each n (λ v. f v ∷ [])) v d ≡ f v
   unfolding each
-  get_d_each zero v d low = absurd (omega arith)
-  get_d_each (suc k) v d low = go (get_d_each k v d) (eq-or-lt_of_le (le_of_suc-le-suc low))
+  get_or_each zero v d low = absurd (omega arith)
+  get_or_each (suc k) v d low = go (get_or_each k v d) (eq-or-lt_of_le (le_of_suc-le-suc low))
     where
       go : (v < k → get_or (each k (λ v. f v ∷ [])) v d ≡ f v) → (v ≡ k) ⊎ (v < k)
           → get_or (each k (λ v. f v ∷ []) ++ (f k ∷ [])) v d ≡ f v
@@ -47,7 +47,7 @@ parent_in_each n p rest outside = fun_ext (λ v. go v (which (ltb v n)))
   where
     go : (v : ℕ) → (ltb v n ≡ true) ⊎ (ltb v n ≡ false) → parent_in n (each n (λ v. p v ∷ []) ++ rest) v ≡ p v
     go v (inl low) = pick_true _ _ low ∙ get_or-append (each n (λ v. p v ∷ [])) rest nobody v
-        (omega (arith, length_each p n, ltb-true v n low)) ∙ get_d_each p n v nobody (ltb-true v n low)
+        (omega (arith, length_each p n, ltb-true v n low)) ∙ get_or_each p n v nobody (ltb-true v n low)
     go v (inr high) = pick_false _ _ high ∙ sym (outside v (ltb-false v n high))
 
 module _ (n : ℕ) (e : ℕ → ℕ → Bool) (graph : IsGraph n e) (room : n ≤ nobody) where

@@ -128,7 +128,7 @@ pub fn toggle(words: &mut [u64], x: usize, y: usize)
     requires words_len { length words.old ≡ 256 }
     requires x_bound { x < 128 }
     requires y_bound { y < 128 }
-    requires x_nonzero { x ≢ y }
+    requires apart { x ≢ y }
     ensures { Toggled x y words.old words.new }
 {
     toggle_entry(words, x, y);

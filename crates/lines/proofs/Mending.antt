@@ -23,10 +23,10 @@ use Rattle.lines.proofs.Behind.{take_more}
 use Rattle.lines.proofs.Drawn.{turned_both}
 
 -- an entry of a list is one of its members
-pub get_d_member : (xs : List ℕ) (k : ℕ) → k < length xs → member (get_or xs k 0) xs ≡ true
-get_d_member [] k h = absurd (omega arith)
-get_d_member (x ∷ xs) zero h = member_here x xs
-get_d_member (x ∷ xs) (suc k) h = member_there (get_or xs k 0) x xs (get_d_member xs k (omega arith))
+pub get_or_member : (xs : List ℕ) (k : ℕ) → k < length xs → member (get_or xs k 0) xs ≡ true
+get_or_member [] k h = absurd (omega arith)
+get_or_member (x ∷ xs) zero h = member_here x xs
+get_or_member (x ∷ xs) (suc k) h = member_there (get_or xs k 0) x xs (get_or_member xs k (omega arith))
 
 -- of an ascending list, an entry is not among those before it
 fresh : (xs : List ℕ) (k : ℕ) → k < length xs → ascending xs ≡ true → member (get_or xs k 0) (take k xs) ≡ false
@@ -35,7 +35,7 @@ fresh (x ∷ xs) zero h up = fails (member_none x)
 fresh (x ∷ xs) (suc k) h up = fails (λ m. go (fresh xs k (omega arith) (ascending_tail x xs up)) (member_out (get_or xs k 0) x (take k xs) m))
   where
     go : member (get_or xs k 0) (take k xs) ≡ false → (get_or xs k 0 ≡ x) ⊎ (member (get_or xs k 0) (take k xs) ≡ true) → ⊥
-    go off (inl e) = let l = ascending_head x xs up (get_or xs k 0) (get_d_member xs k (omega arith)) in omega arith
+    go off (inl e) = let l = ascending_head x xs up (get_or xs k 0) (get_or_member xs k (omega arith)) in omega arith
     go off (inr m) = never m off
 
 -- the number of a pair: below n x n, with its vertices in order
@@ -82,7 +82,7 @@ module _ (n x : ℕ) (pair : is_pair n x ≡ true) where
 -- every listed number is a pair's
 module _ (n : ℕ) (repair : List ℕ) (pairs : all (is_pair n) repair ≡ true) where
   listed_pair : (k : ℕ) → k < length repair → is_pair n (get_or repair k 0) ≡ true
-  listed_pair k h = all_at (is_pair n) (get_or repair k 0) repair pairs (get_d_member repair k h)
+  listed_pair k h = all_at (is_pair n) (get_or repair k 0) repair pairs (get_or_member repair k h)
 
   pub listed_inside : (k : ℕ) → k < length repair → get_or repair k 0 < n * n
   listed_inside k h = pair_inside n (get_or repair k 0) (listed_pair k h)

@@ -22,7 +22,7 @@ use Rattle.forest.specs.declared.Answer.TheVariants.{Refused, Spoiled, Forest}
 use Rattle.forest.specs.Answer.{Promise, Grown, checks}
 use Rattle.forest.specs.Order.{parent}
 use Rattle.forest.specs.Forest.{parent_in, roots}
-use Rattle.forest.proofs.Listed.{length_each, get_d_each, parent_in_parents}
+use Rattle.forest.proofs.Listed.{length_each, get_or_each, parent_in_parents}
 use Rattle.lines.specs.Lines.{parent_line, parent_lines}
 
 -- pieces that are alike make the same list
@@ -57,7 +57,7 @@ module _ (n : ℕ) (g out : List ℕ) (few : n ≤ 128) (long : length g ≡ n *
             ap (λ l. get_or l v 0) grown.parents ∙
             get_or-append (each n (λ v. parent n (edge n g) v ∷ [])) (drop n out) 0 v
             (omega (arith, length_each (parent n (edge n g)) n)) ∙
-            get_d_each (parent n (edge n g)) n v 0 h
+            get_or_each (parent n (edge n g)) n v 0 h
 
     pub groups_told : groups ≡ roots n (parent n (edge n g))
     groups_told =

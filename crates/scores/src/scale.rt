@@ -66,7 +66,7 @@ pub fn spot_of(n: usize, i: usize, j: usize) -> usize
     requires n_bound { n ≤ 128 }
     requires i_lt_n { i < n }
     requires j_lt_n { j < n }
-    requires i_nonzero { i ≢ j }
+    requires apart { i ≢ j }
     ensures { (result ≡ spot n i j) × (result < half n) }
 {
     if i < j {

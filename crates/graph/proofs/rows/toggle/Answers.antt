@@ -4,5 +4,5 @@ use Rattle.graph.proofs.rows.toggle.Goals as goal
 
 pub returns : goal.returns
 returns c =
-    let apart = c.requires.x_nonzero in
+    let apart = c.requires.apart in
     both_ways apart c.toggle_entry.ensures c.toggle_entry-2.ensures

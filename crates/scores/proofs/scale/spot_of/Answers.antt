@@ -25,7 +25,7 @@ returns-then-i-j c =
 pub overflow_add-result-2 : goal.overflow_add-result-2
 overflow_add-result-2 c =
     let e = c.earlier_of-2.ensures in
-    let d : c.args.j < c.args.i = other c.args.i c.args.j c.if-i-j.false c.requires.i_nonzero in
+    let d : c.args.j < c.args.i = other c.args.i c.args.j c.if-i-j.false c.requires.apart in
     let s = spot_down c.args.n c.args.i c.args.j (omega arith) (omega arith) d in
     let h = half_small c.args.n (omega arith) in
     record { fits = omega arith }
@@ -33,7 +33,7 @@ overflow_add-result-2 c =
 pub returns : goal.returns
 returns c =
     let e = c.earlier_of-2.ensures in
-    let d : c.args.j < c.args.i = other c.args.i c.args.j c.if-i-j.false c.requires.i_nonzero in
+    let d : c.args.j < c.args.i = other c.args.i c.args.j c.if-i-j.false c.requires.apart in
     let s = spot_down c.args.n c.args.i c.args.j (omega arith) (omega arith) d in
     let h = half_small c.args.n (omega arith) in
     (omega arith, omega arith)
