@@ -2,6 +2,7 @@
 #![tactic(auto)]
 
 pub mod check;
+pub mod row;
 pub mod rows;
 pub mod seek;
 
