@@ -13,10 +13,7 @@ fn edge_of(n: usize, g: &[u8], i: usize, j: usize) -> bool
     requires i_lt_n { i < n }
     ensures { result ≡ edge n g.now i j }
 {
-    if j < n {
-        return g[i * n + j] == 1;
-    }
-    false
+    j < n && g[i * n + j] == 1
 }
 
 // w with its clear bit k set, where `on` says so.
@@ -40,11 +37,8 @@ fn word_of(n: usize, g: &[u8], i: usize, off: usize) -> u64
     ensures { (k : ℕ) → k < 64 → bit result k ≡ edge n g.now i (off + k) }
 {
     let mut w: u64 = 0;
-    let mut k = 0;
-    while k < 64 {
-        let on = edge_of(n, g, i, off + k);
-        w = with_bit(w, k, on);
-        k += 1;
+    for k in 0..64 {
+        w = with_bit(w, k, edge_of(n, g, i, off + k));
     }
     w
 }
@@ -56,9 +50,7 @@ fn row_of(n: usize, g: &[u8], i: usize) -> [u64; 2]
     requires i_lt_n { i < n }
     ensures { IsRow result (edge n g.now i) }
 {
-    let low = word_of(n, g, i, 0);
-    let high = word_of(n, g, i, 64);
-    [low, high]
+    [word_of(n, g, i, 0), word_of(n, g, i, 64)]
 }
 
 // The rows of the graph.
@@ -68,20 +60,10 @@ pub fn rows_of(n: usize, g: &[u8]) -> [[u64; 2]; 128]
     ensures { Rowed n g.now result }
 {
     let mut rows = [[0u64; 2]; 128];
-    let mut i = 0;
-    while i < n {
+    for i in 0..n {
         rows[i] = row_of(n, g, i);
-        i += 1;
     }
     rows
-}
-
-// Word k of a row.
-fn word(row: [u64; 2], k: usize) -> u64
-    requires { k < 2 }
-    ensures { result ≡ get_or row k 0 }
-{
-    row[k]
 }
 
 // The words of the rows, one behind the other.
@@ -89,14 +71,9 @@ pub fn flat_of(rows: [[u64; 2]; 128]) -> [u64; 256]
     ensures { Flat rows result }
 {
     let mut words = [0u64; 256];
-    let mut i = 0;
-    while i < 128 {
-        let row = rows[i];
-        let low = word(row, 0);
-        let high = word(row, 1);
-        words[2 * i] = low;
-        words[2 * i + 1] = high;
-        i += 1;
+    for (i, [low, high]) in rows.iter().enumerate() {
+        words[2 * i] = *low;
+        words[2 * i + 1] = *high;
     }
     words
 }
@@ -119,8 +96,7 @@ fn toggle_entry(words: &mut [u64], x: usize, y: usize)
     ensures { OneWay x y words.old words.new }
 {
     let p = 2 * x + y / 64;
-    let w = words[p];
-    words[p] = bits::flipped(w, y % 64);
+    words[p] = bits::flipped(words[p], y % 64);
 }
 
 // The pair {x, y} is toggled.

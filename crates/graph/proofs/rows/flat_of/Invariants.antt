@@ -1,13 +1,8 @@
 -- `graph::rows::flat_of` meets its contract. The loop's invariant: the words of the rows below `i` are copied.
 -- Assumes nothing.
-use Prim.Native.Nat.{◌-◌, ◌≤◌}
 use Rattle.graph.proofs.WordLaws.{Copied}
 use Rattle.graph.proofs.rows.flat_of.Given as goal
 
 abbrev pub invariant-loop-i : goal.invariant-loop-i
 invariant-loop-i l =
-    (l.i ≤ 128) × Copied l.rows l.i l.words
-
-abbrev pub decreases-loop-i : goal.decreases-loop-i
-decreases-loop-i l =
-    128 - l.i
+    Copied l.fn.rows l.i l.words

@@ -5,5 +5,5 @@ use Rattle.graph.proofs.rows.row_of.Goals as goal
 
 pub returns : goal.returns
 returns c =
-    row_made _ (omega (arith, c.word_of-low.type_inv)) (omega (arith, c.word_of-high.type_inv))
-    c.word_of-low.ensures c.word_of-high.ensures
+    row_made _ (omega (arith, c.word_of.type_inv)) (omega (arith, c.word_of-2.type_inv))
+    c.word_of.ensures c.word_of-2.ensures

@@ -1,14 +1,10 @@
 -- `graph::rows::word_of` meets its contract. The loop's invariant: the bits below `k` are the edges, the rest is clear.
 -- Assumes nothing.
-use Prim.Native.Nat.{◌+◌, ◌-◌, ◌≤◌}
+use Prim.Native.Nat.{◌+◌}
 use Rattle.graph.specs.Graph.{edge}
 use Rattle.graph.proofs.RowLaws.{Part}
 use Rattle.graph.proofs.rows.word_of.Given as goal
 
 abbrev pub invariant-loop-k : goal.invariant-loop-k
 invariant-loop-k l =
-    (l.k ≤ 64) × Part (λ b. edge l.n l.g l.i (l.off + b)) l.k l.w
-
-abbrev pub decreases-loop-k : goal.decreases-loop-k
-decreases-loop-k l =
-    64 - l.k
+    Part (λ b. edge l.n l.g l.i (l.off + b)) l.k l.w
