@@ -1,8 +1,7 @@
 // The forest of a clean graph: its entry point, over the recogniser that takes one vertex at a time.
 #![tactic(auto)]
 
-ghost use Rattle.std.specs.Prelude.{◌≡◌, ◌++◌, [], ◌∷◌, ◌*◌, ◌≤◌, ◌<◌, length, get_or, take, drop, eqb};
-ghost use Rattle.bits.specs.Choice.{count};
+ghost use Rattle.std.specs.Prelude.{◌≡◌, ◌++◌, [], ◌∷◌, ◌*◌, ◌≤◌, ◌<◌, length, drop, eqb, count_by};
 ghost use Rattle.graph.specs.Each.{each};
 ghost use Rattle.graph.specs.Graph.{edge, word_edge, IsGraph};
 ghost use Rattle.graph.specs.declared.Finding.TheVariants.{Fine};
@@ -13,6 +12,9 @@ ghost use Rattle.forest.specs.Forest.{roots};
 mod recogniser;
 
 use graph::{Finding, First};
+
+// Stands in a lent list for the parent of a vertex that has none.
+const NOBODY: u16 = 65535;
 
 // What `forest` answers: a refusal with its number and place; the first quad of a graph that is not clean; or a forest,
 // with the number of its groups.
@@ -29,32 +31,11 @@ pub enum Answer {
     },
 }
 
-// The first n parents are copied to the front of the lent list.
-fn copy(parents: [u16; 128], n: usize, out: &mut [u16])
-    requires { (length parents ≡ 128) × (n ≤ 128) × (n ≤ length out.old) }
-    ensures { out.new ≡ take n parents ++ drop n out.old }
-{
-    let mut i = 0;
-    while i < n {
-        out[i] = parents[i];
-        i += 1;
-    }
-}
-
 // How many of the first n have no parent.
-fn roots_of(parents: [u16; 128], n: usize) -> usize
-    requires { n ≤ 128 }
-    ensures { result ≡ count (λ v. eqb (get_or parents v 0) nobody) n }
+fn roots_of(parents: &[u16]) -> usize
+    ensures { result ≡ count_by (λ p. eqb p nobody) parents.now }
 {
-    let mut found = 0;
-    let mut i = 0;
-    while i < n {
-        if parents[i] == 65535 {
-            found += 1;
-        }
-        i += 1;
-    }
-    found
+    parents.iter().filter(|&&p| p == NOBODY).count()
 }
 
 // The forest of a clean graph.
@@ -64,9 +45,9 @@ fn planted(words: &[u64], n: usize, out: &mut [u16]) -> Answer
         × (out.new ≡ each n (λ v. parent n (word_edge words.now) v ∷ []) ++ drop n out.old) }
 {
     let parents = recogniser::parents_of(words, n);
-    copy(parents, n, out);
+    out[..n].copy_from_slice(&parents[..n]);
     Answer::Forest {
-        groups: roots_of(parents, n),
+        groups: roots_of(&parents[..n]),
     }
 }
 
