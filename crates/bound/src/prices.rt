@@ -8,19 +8,11 @@ ghost use Rattle.bound.specs.Costs.{Costs, Filled};
 use graph::Finding;
 
 // Is p within the rule for row i, column j?
+#[tactic(auto, unfolding(graph::specs::Price::priced, bits::specs::Choice::pick))]
 fn allowed(i: usize, j: usize, p: u16) -> bool
     ensures { result ≡ priced i j p }
 {
-    if i == j {
-        return p == 0;
-    }
-    if p == 65535 {
-        return true;
-    }
-    if p == 0 {
-        return false;
-    }
-    p <= 10000
+    if i == j { p == 0 } else { matches!(p, 1..=10000 | 65535) }
 }
 
 // The price at row i, column j.
@@ -103,10 +95,8 @@ fn cost_row(n: usize, prices: &[u16], i: usize, cost: &mut [u16])
     requires filled { Filled n prices.now (i * 128) cost.old }
     ensures { Filled n prices.now (i * 128 + 128) cost.new }
 {
-    let mut j = i + 1;
-    while j < n {
+    for j in i + 1..n {
         cost[i * 128 + j] = prices[i * n + j];
-        j += 1;
     }
 }
 
@@ -117,10 +107,8 @@ pub fn costs(n: usize, prices: &[u16]) -> [u16; 16384]
     ensures { Costs n prices.now result }
 {
     let mut cost = [65535u16; 16384];
-    let mut i = 0;
-    while i < n {
+    for i in 0..n {
         cost_row(n, prices, i, &mut cost);
-        i += 1;
     }
     cost
 }

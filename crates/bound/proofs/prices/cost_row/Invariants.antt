@@ -1,13 +1,9 @@
 -- `bound::prices::cost_row` meets its contract. The loop over the vertices above i: the table is filled up to i and j.
--- The measure is what is left of n. Assumes nothing.
-use Prim.Native.Nat.{◌+◌, ◌*◌, ◌-◌, ◌≤◌, ◌<◌}
+-- Assumes nothing.
+use Prim.Native.Nat.{◌+◌, ◌*◌}
 use Rattle.bound.specs.Costs.{Filled}
 use Rattle.bound.proofs.prices.cost_row.Given as goal
 
 abbrev pub invariant-loop-j : goal.invariant-loop-j
 invariant-loop-j l =
-    (l.i < l.j) × (l.j ≤ l.n) × Filled l.n l.prices (l.i * 128 + l.j) l.cost
-
-abbrev pub decreases-loop-j : goal.decreases-loop-j
-decreases-loop-j l =
-    l.n - l.j
+    Filled l.n l.prices (l.i * 128 + l.j) l.cost
