@@ -3,7 +3,7 @@ ghost use Rattle.std.specs.Prelude.{◌≡◌, [], ◌∷◌, ◌+◌, ◌*◌, 
 ghost use Rattle.graph.specs.Each.{each};
 ghost use Rattle.graph.specs.Refusal.{first_of};
 ghost use Rattle.graph.specs.Price.{priced, price_entry, price_entries};
-ghost use Rattle.bound.specs.Costs.{Costs, Filled};
+ghost use Rattle.bound.specs.Costs.{Costs};
 
 use graph::Finding;
 
@@ -87,19 +87,6 @@ pub fn price_entries(n: usize, prices: &[u16]) -> Finding
     Finding::Fine
 }
 
-// Row i of the table: the pairs of i and the vertices above it.
-fn cost_row(n: usize, prices: &[u16], i: usize, cost: &mut [u16])
-    requires n_bound { n ≤ 128 }
-    requires prices_len { length prices.now ≡ n * n }
-    requires i_lt_n { i < n }
-    requires filled { Filled n prices.now (i * 128) cost.old }
-    ensures { Filled n prices.now (i * 128 + 128) cost.new }
-{
-    for j in i + 1..n {
-        cost[i * 128 + j] = prices[i * n + j];
-    }
-}
-
 // The working table of costs from the prices.
 pub fn costs(n: usize, prices: &[u16]) -> [u16; 16384]
     requires n_bound { n ≤ 128 }
@@ -108,7 +95,8 @@ pub fn costs(n: usize, prices: &[u16]) -> [u16; 16384]
 {
     let mut cost = [65535u16; 16384];
     for i in 0..n {
-        cost_row(n, prices, i, &mut cost);
+        // the pairs of i and the vertices above it
+        cost[i * 128 + i + 1..i * 128 + n].copy_from_slice(&prices[i * n + i + 1..i * n + n]);
     }
     cost
 }

@@ -1,4 +1,4 @@
-use Rattle.bound.proofs.PriceLaws.{filled_none, rows_next, filled_end}
+use Rattle.bound.proofs.PriceLaws.{filled_none, row_copied, filled_end}
 use Rattle.bound.proofs.prices.costs.Goals as goal
 
 pub loop-i-init : goal.loop-i-init
@@ -7,7 +7,7 @@ loop-i-init c =
 
 pub loop-i-preserved : goal.loop-i-preserved
 loop-i-preserved c =
-    rows_next _ _ _ c.cost_row.ensures
+    row_copied _ _ _ _ _ c.requires.n_bound c.loop-i-test.true c.requires.prices_len c.copy_from_slice.ensures.after c.loop-i.invariant
 
 pub returns : goal.returns
 returns c =
