@@ -61,16 +61,6 @@ fn lay(cost: &[u16], taken: &mut [u64], x: usize, y: usize, low: u32) -> u32
     low
 }
 
-// The pairs of x and z and of x and y.
-fn lay_two(cost: &[u16], taken: &mut [u64], x: usize, y: usize, z: usize, low: u32) -> u32
-    requires { (length cost.now ≡ 16384) × (length taken.old ≡ 256) × (x < 128) × (y < 128) × (z < 128) }
-    ensures { Laid (laid cost.now x y (laid cost.now x z (word_edge taken.old)))
-        (lower cost.now x y (lower cost.now x z low)) taken.new result }
-{
-    let m = lay(cost, taken, x, z, low);
-    lay(cost, taken, x, y, m)
-}
-
 // All six pairs, and the lowest cost.
 fn lay_all(cost: &[u16], taken: &mut [u64], a: usize, b: usize, c: usize, d: usize) -> u32
     requires cost_len { (length cost.now ≡ 16384) × (length taken.old ≡ 256) }
@@ -78,10 +68,11 @@ fn lay_all(cost: &[u16], taken: &mut [u64], a: usize, b: usize, c: usize, d: usi
     ensures { Laid (laid_all cost.now a b c d (word_edge taken.old))
         (fee cost.now a b c d) taken.new result }
 {
-    let m = lay(cost, taken, c, d, 4294967295);
-    let k = lay_two(cost, taken, b, c, d, m);
-    let l = lay_two(cost, taken, a, c, d, k);
-    lay(cost, taken, a, b, l)
+    let mut low = 4294967295;
+    for (x, y) in [(c, d), (b, d), (b, c), (a, d), (a, c), (a, b)] {
+        low = lay(cost, taken, x, y, low);
+    }
+    low
 }
 
 // Is one of the six pairs used?
