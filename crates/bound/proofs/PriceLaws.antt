@@ -1,8 +1,7 @@
--- Check 6, entry by entry: the rule in each case of the code. The table of costs grows from its front, 65,535 behind.
--- Assumes nothing.
-use mathlib.Core.Path.{◌≡◌, refl, sym, ◌∙◌, ap, subst}
-use mathlib.Core.Logic.{◌⊎◌, inl, inr, ◌≢◌}
-use mathlib.Core.Bool.{true, false, ◌&&◌, ◌||◌}
+-- The table of costs grows from its front, 65,535 behind. Assumes nothing.
+use mathlib.Core.Path.{◌≡◌, refl, sym, ◌∙◌, ap}
+use mathlib.Core.Logic.{◌⊎◌, inl, inr}
+use mathlib.Core.Bool.{false, ◌&&◌}
 use mathlib.Core.List.{List}
 use Prim.Native.Nat.{ℕ, ◌+◌, ◌-◌, ◌*◌, ◌/◌, ◌%◌, ◌≤◌, ◌<◌}
 use native.Mathlib.Omega.{arith}
@@ -10,34 +9,13 @@ use borrow.Rule.Slice.PartMut.{put_mid}
 use lib.ListN.{length, get_or, take, drop, replicate, get_or-replicate}
 use Rattle.std.proofs.Common.{rules}
 use Rattle.std.proofs.lemmas.List.{places}
-use lib.Dec.{ltb, leb, eqb}
-use borrow.Author.Tests.{eq-eqb, ne_eqb, le-leb, lt-leb, lt-ltb, le-ltb}
+use lib.Dec.{ltb}
+use borrow.Author.Tests.{lt-ltb, le-ltb}
 use Rattle.bits.specs.Choice.{pick}
-use Rattle.bits.proofs.Truth.{and_in, and_off_left, and_off_right, or_right, or_off, below, equal, pick_true, pick_false}
-use Rattle.graph.specs.declared.Finding.TheVariants.{Fine, Fault}
-use Rattle.graph.specs.Price.{fixed, priced, price_entry}
+use Rattle.bits.proofs.Truth.{and_in, and_off_left, and_off_right, below, pick_true, pick_false}
+use Rattle.graph.specs.Price.{fixed}
 use Rattle.graph.proofs.CheckLaws.{inside}
 use Rattle.bound.specs.Costs.{cost_at, Costs, Filled}
-
-module _ (n : ℕ) (ps : List ℕ) (i j : ℕ) where
-  pub unlike : get_or ps (i * n + j) 0 ≢ get_or ps (j * n + i) 0 → Fault 6 i j ≡ price_entry n ps i j
-  unfolding price_entry
-  unlike d =
-      sym
-      (pick_false Fine (Fault 6 i j)
-      (and_off_right (priced i j (get_or ps (i * n + j) 0)) (ne_eqb (get_or ps (i * n + j) 0) (get_or ps (j * n + i) 0) d)))
-
-  pub fine : get_or ps (i * n + j) 0 ≡ get_or ps (j * n + i) 0 → priced i j (get_or ps (i * n + j) 0) ≡ true → Fine ≡ price_entry n ps i j
-  unfolding price_entry
-  fine e h =
-      sym (pick_true Fine (Fault 6 i j) (and_in h (eq-eqb (get_or ps (i * n + j) 0) (get_or ps (j * n + i) 0) e)))
-
-  pub outside : priced i j (get_or ps (i * n + j) 0) ≡ false → Fault 6 i j ≡ price_entry n ps i j
-  unfolding price_entry
-  outside h =
-      sym
-      (pick_false Fine (Fault 6 i j)
-      (and_off_left (eqb (get_or ps (i * n + j) 0) (get_or ps (j * n + i) 0)) h))
 
 module _ (n : ℕ) (ps : List ℕ) where
   pub filled_none : Filled n ps 0 (replicate 16384 65535)
@@ -142,7 +120,7 @@ module _ (n : ℕ) (ps : List ℕ) where
       same : (j : ℕ) → j < i * 128 + n - (i * 128 + i + 1) → get_or ys j 0 ≡ cost_at n ps (i * 128 + i + 1 + j)
       same j h =
           let there : get_or (take (i * n + n - (i * n + i + 1)) (drop (i * n + i + 1) ps)) j 0 ≡ get_or ps (i * n + (i + 1 + j)) 0 =
-              search (rules, places)
+          search (rules, places)
           in
           let here : i * 128 + (i + 1 + j) ≡ i * 128 + i + 1 + j = omega arith in
           ap (λ v. get_or v j 0) e ∙ there ∙ cost_pair i (i + 1 + j) (omega arith) (omega arith) few ∙ ap (cost_at n ps) here
