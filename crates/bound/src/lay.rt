@@ -75,16 +75,25 @@ fn lay_all(cost: &[u16], taken: &mut [u64], a: usize, b: usize, c: usize, d: usi
     low
 }
 
+// Is the pair of a and b, of a and c or of b and c used?
+pub fn shut(taken: &[u64], a: usize, b: usize, c: usize) -> bool
+    requires { (length taken.now ≡ 256) × (a < 128) × (b < 128) × (c < 128) }
+    ensures { result ≡ (word_edge taken.now a b
+        || (word_edge taken.now a c || word_edge taken.now b c)) }
+{
+    graph::rows::adjacent(taken, a, b)
+        || graph::rows::adjacent(taken, a, c)
+        || graph::rows::adjacent(taken, b, c)
+}
+
 // Is one of the six pairs used?
 #[tactic(auto, unfolding(crate::specs::Pass::touched))]
 fn touched_of(taken: &[u64], a: usize, b: usize, c: usize, d: usize) -> bool
     requires { (length taken.now ≡ 256) × (a < 128) × (b < 128) × (c < 128) × (d < 128) }
     ensures { result ≡ touched a b c d (word_edge taken.now) }
 {
-    graph::rows::adjacent(taken, a, b)
-        || graph::rows::adjacent(taken, a, c)
+    shut(taken, a, b, c)
         || graph::rows::adjacent(taken, a, d)
-        || graph::rows::adjacent(taken, b, c)
         || graph::rows::adjacent(taken, b, d)
         || graph::rows::adjacent(taken, c, d)
 }
