@@ -50,9 +50,8 @@ pub fn take_scores(sheet: &[u8], p: usize, n: usize, scores: &mut [i16])
     requires n_in_bounds { half n ≤ length scores.old }
     ensures { scores.new ≡ paste scores.old 0 (scores_in sheet.now p n) (half n) }
 {
-    let m = scale::half_of(n);
-    for k in 0..m {
-        scores[k] = score_at(sheet, p, k);
+    for (k, s) in scores[..scale::half_of(n)].iter_mut().enumerate() {
+        *s = score_at(sheet, p, k);
     }
 }
 

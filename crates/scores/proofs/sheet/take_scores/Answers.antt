@@ -1,9 +1,8 @@
-use Prim.Native.Nat.{ℕ, ◌<◌}
+use Prim.Native.Nat.{ℕ}
 use lib.IntN.{ℤ, pos}
 use mathlib.Core.Path.{sym, ◌∙◌}
-use native.Mathlib.Omega.{arith}
 use Rattle.scores.proofs.Complement.{back}
-use Rattle.scores.proofs.Pasting.{one_more, complete}
+use Rattle.scores.proofs.Pasting.{part_more, part_complete}
 use Rattle.scores.proofs.Squares.{length_each, each_at}
 use Rattle.scores.specs.Inner.{scores_in}
 use Rattle.scores.specs.Scale.{half}
@@ -15,13 +14,15 @@ loop-k-preserved c =
     let l = c.loop-k in
     let n : ℕ = c.args.n in
     let f : ℕ → ℤ = score_at c.args.sheet.now c.args.p in
-    let h : l.k < half n = omega (arith, c.loop-k-test.true, c.half_of-m.ensures) in
     let v = back c.score_at.result c.score_at.type_inv ∙ c.score_at.ensures in
-    one_more c.args.scores.now (scores_in c.args.sheet.now c.args.p n) (length_each (half n) f) c.requires.n_in_bounds l.k l.invariant (pos 0) h (v ∙ sym (each_at (half n) f l.k (pos 0) h))
+    let h = c.half_of.ensures in
+    part_more c.args.scores.now (scores_in c.args.sheet.now c.args.p n) (length_each (half n) f) h c.requires.n_in_bounds l.k l.invariant (pos 0)
+    c.loop-k-test.true (λ few. v ∙ sym (each_at (half n) f l.k (pos 0) few))
 
 pub returns : goal.returns
 returns c =
     let l = c.loop-k in
     let n : ℕ = c.args.n in
     let f : ℕ → ℤ = score_at c.args.sheet.now c.args.p in
-    complete c.args.scores.now (scores_in c.args.sheet.now c.args.p n) (length_each (half n) f) c.requires.n_in_bounds l.k l.invariant (omega (arith, c.half_of-m.ensures)) (omega (arith, c.loop-k-test.false, c.half_of-m.ensures))
+    part_complete c.args.scores.now (scores_in c.args.sheet.now c.args.p n) (length_each (half n) f) c.half_of.ensures c.requires.n_in_bounds l.k l.invariant
+    l.auto.k-end c.loop-k-test.false

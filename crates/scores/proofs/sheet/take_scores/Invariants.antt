@@ -6,4 +6,4 @@ use Rattle.scores.proofs.sheet.take_scores.Given as goal
 
 abbrev pub invariant-loop-k : goal.invariant-loop-k
 invariant-loop-k l =
-    l.scores ≡ paste l.initial.scores 0 (scores_in l.sheet l.p l.n) l.k
+    l.s-items ≡ paste l.initial.s-items 0 (scores_in l.sheet l.p l.n) l.k
