@@ -28,13 +28,13 @@ use Rattle.scores.specs.Writer as writer
 use Rattle.scores.proofs.Checking.{fine_out, fine_first}
 use Rattle.scores.proofs.ScoreFaults.{each_on}
 use Rattle.scores.proofs.Places.{half_twice}
-use Rattle.scores.proofs.OnScale.{on_lift}
+use Rattle.scores.proofs.OnScale.{on_fits}
 use Rattle.scores.proofs.Squares.{length_each, each_at}
 use Rattle.scores.proofs.Fields.{length_low, field_at, field_two}
-use Rattle.scores.proofs.Puts.{length_scores, low_byte, high_byte}
+use Rattle.scores.proofs.Puts.{length_scores, length_trailer, low_byte, high_byte}
 use Rattle.scores.proofs.Sheets.{as_long, laid_out, scores_decide}
 use Rattle.scores.proofs.Readings.{read_all, shown_all}
-use Rattle.scores.proofs.Writings.{length_trailer, writable}
+use Rattle.scores.proofs.Writings.{writable}
 use Rattle.scores.proofs.Determined.{reading_determined}
 
 module _
@@ -68,7 +68,7 @@ module _
   behind = omega (arith, length_front, length_sheet, half_twice n)
 
   fits_t : SFits w16 t
-  fits_t = (on_lift t on-t).2
+  fits_t = on_fits t on-t
 
   -- the trailer's fields
   pub notes_back : notes_of sheet ≡ p
@@ -114,7 +114,7 @@ module _
   score_back k h =
       let z : ℤ = get_or scores k (pos 0) in
       let v : ℕ = of_z w16 z in
-      let fits : SFits w16 z = (on_lift z (each_on n scores on k (omega arith))).2 in
+      let fits : SFits w16 z = on_fits z (each_on n scores on k (omega arith)) in
       let small : v < 65536 = (of_z_fits w16 z fits).fits in
       let low = byte_back (2 * k) (omega arith) ∙ low_byte scores k h in
       let next : p + 2 * k + 1 ≡ p + (2 * k + 1) = omega arith in

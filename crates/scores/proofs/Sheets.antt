@@ -2,9 +2,11 @@
 use mathlib.Core.Path.{◌≡◌, refl, sym, ◌∙◌, ap}
 use mathlib.Core.Bool.{Bool, true, false, not, ◌||◌}
 use mathlib.Core.List.{List, [], ◌∷◌}
-use Prim.Native.Nat.{ℕ, ◌≤◌, ◌<◌}
-use lib.ListN.{length}
+use Prim.Native.Nat.{ℕ, ◌+◌, ◌*◌, ◌≤◌, ◌<◌}
+use native.Mathlib.Omega.{arith}
+use lib.ListN.{length, get_or}
 use lib.Dec.{ltb, eqb}
+use lib.IntN.{ℤ, pos}
 use borrow.Author.Tests.{lt-ltb, le-ltb, ltb-false, eqb-true, not-true, not-false}
 use Rattle.bits.proofs.Truth.{not_in, not_off, or_left, or_off_left, or_off_right}
 use Rattle.graph.specs.declared.Finding.{Finding}
@@ -12,9 +14,11 @@ use Rattle.graph.specs.declared.Finding.TheVariants.{Fine, Fault}
 use Rattle.graph.specs.Refusal.{row, first_of}
 use Rattle.graph.specs.Check.{too_many}
 use Rattle.graph.proofs.Refusals.{first_of_single}
-use Rattle.scores.specs.Scale.{on_scale, threshold_off, scores_off}
-use Rattle.scores.specs.Sheet.{sheet_length, notes_of, size_of, threshold_of, scores_of}
+use Rattle.scores.specs.Scale.{on_scale, half, threshold_off, scores_off}
+use Rattle.scores.specs.Sheet.{sheet_length, notes_of, size_of, threshold_of, score_at, scores_of}
 use Rattle.scores.specs.Reader.{wrong_layout, layout_fault, sheet_fault}
+use Rattle.scores.proofs.Places.{half_twice}
+use Rattle.scores.proofs.Squares.{each_at}
 use Rattle.scores.proofs.Checking.{hit, pass, done, fine_out, fine_first, decided, left_over}
 
 -- the length, and p
@@ -105,3 +109,15 @@ module _ (sheet : List ℕ) where
       let a = fine_first (layout_fault sheet) scales e in
       let b = fine_out 5 (not (on_scale (threshold_of sheet))) (scores_off (size_of sheet) (scores_of sheet) ∷ []) a.1 in
       (laid a.0, not-false _ b.0, b.1 ∙ first_of_single _)
+
+-- the k-th score lies in a sheet whose layout is right, and is the k-th of its scores
+module _ (sheet : List ℕ) {p n k : ℕ} (behind : p ≡ notes_of sheet) (size : n ≡ size_of sheet) (few : k < half n) where
+  pub score_inside : Laid sheet → p + 2 * k + 2 ≤ length sheet
+  score_inside ok =
+      let m : k < half (size_of sheet) = rw size at few in
+      omega (arith, ok.long, half_twice (size_of sheet))
+
+  pub score_listed : {s : ℤ} → s ≡ score_at sheet p k → s ≡ get_or (scores_of sheet) k (pos 0)
+  unfolding scores_of
+  score_listed e =
+      rw behind at e ∙ sym (each_at (half (size_of sheet)) (score_at sheet (notes_of sheet)) k (pos 0) (rw size at few))

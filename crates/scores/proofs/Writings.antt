@@ -16,19 +16,15 @@ use Rattle.graph.specs.Check.{too_many, too_short}
 use Rattle.graph.proofs.Refusals.{first_of_single}
 use Rattle.scores.specs.declared.Writing.TheVariants.{Refused, Written}
 use Rattle.scores.specs.Scale.{half, threshold_off, scores_off}
-use Rattle.scores.specs.Sheet.{low_first, signed_bytes, score_bytes, trailer, sheet_bytes, sheet_length}
+use Rattle.scores.specs.Sheet.{score_bytes, trailer, sheet_bytes, sheet_length}
 use Rattle.scores.specs.Drawing.{wrong_count}
 use Rattle.scores.specs.Writer.{long_notes, write_fault, checks, Promise}
 use Rattle.scores.proofs.Checking.{hit, pass, done, fine_out, decided, left_over}
 use Rattle.scores.proofs.Drawings.{counted}
 use Rattle.scores.proofs.Places.{half_twice}
 use Rattle.scores.proofs.Pasting.{pasted}
-use Rattle.scores.proofs.Puts.{length_scores}
+use Rattle.scores.proofs.Puts.{length_scores, length_trailer}
 use Rattle.scores.proofs.Growing.{grown}
-
-pub length_trailer : (p n : ℕ) (t : ℤ) → length (trailer p n t) ≡ 8
-unfolding trailer signed_bytes low_first
-length_trailer p n t = refl
 
 -- the notes from the start, the scores lent on behind them, the trailer lent on behind those
 pub sheet_put :

@@ -13,7 +13,6 @@ use graph::Finding;
 mod draw;
 mod scale;
 mod sheet;
-mod signed;
 
 // What `read` answers: a refusal with its number and place, or the sheet's p, n and t.
 #[derive(Clone, Copy)]

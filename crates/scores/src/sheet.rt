@@ -6,9 +6,9 @@ ghost use Rattle.std.proofs.Common.{to_z};
 ghost use Rattle.scores.specs.Scale.{on_scale, half, scores_off};
 ghost use Rattle.scores.specs.Sheet.{field, score_at, sheet_length, score_bytes, trailer, notes_of, size_of, threshold_of};
 ghost use Rattle.scores.specs.Reader.{wrong_layout, layout_fault, sheet_fault};
-ghost use Rattle.scores.specs.Inner.{FirstOff, scores_in};
+ghost use Rattle.scores.specs.Inner.{scores_in};
 
-use crate::{scale, signed};
+use crate::scale;
 use graph::Finding;
 
 // The number in the two bytes at a place.
@@ -16,7 +16,7 @@ pub fn number2(s: &[u8], at: usize) -> u16
     requires { at + 2 ≤ length s.now }
     ensures { result ≡ field s.now at 2 }
 {
-    (s[at] as u16) + 256 * (s[at + 1] as u16)
+    u16::from_le_bytes([s[at], s[at + 1]])
 }
 
 // The number in the four bytes at a place.
@@ -24,7 +24,7 @@ pub fn number4(s: &[u8], at: usize) -> usize
     requires { at + 4 ≤ length s.now }
     ensures { result ≡ field s.now at 4 }
 {
-    (number2(s, at) as usize) + 65536 * (number2(s, at + 2) as usize)
+    u32::from_le_bytes([s[at], s[at + 1], s[at + 2], s[at + 3]]) as usize
 }
 
 // The signed number in the two bytes at a place.
@@ -32,61 +32,27 @@ pub fn signed2(s: &[u8], at: usize) -> i16
     requires { at + 2 ≤ length s.now }
     ensures { result ≡ to_z w16 (field s.now at 2) }
 {
-    signed::of_bits(number2(s, at))
+    i16::from_le_bytes([s[at], s[at + 1]])
 }
 
-// The place of the first of m scores behind p bytes that is off the scale, or m.
-fn first_off(sheet: &[u8], p: usize, m: usize) -> usize
-    requires { p + 2 * m ≤ length sheet.now }
-    ensures { FirstOff (λ k. on_scale (score_at sheet.now p k)) m result }
+// The k-th score behind p bytes of notes.
+fn score_at(sheet: &[u8], p: usize, k: usize) -> i16
+    requires { p + 2 * k + 2 ≤ length sheet.now }
+    ensures { result ≡ score_at sheet.now p k }
 {
-    let mut k = 0;
-    while k < m {
-        if !scale::on_scale(signed2(sheet, p + 2 * k)) {
-            return k;
-        }
-        k += 1;
-    }
-    k
+    signed2(sheet, p + 2 * k)
 }
 
-// The first score of a sheet off the scale, with its pair.
-pub fn off_scale(sheet: &[u8], p: usize, n: usize) -> Finding
-    requires n_bound { n ≤ 128 }
-    requires sheet_len { length sheet.now ≡ sheet_length p n }
-    ensures { result ≡ scores_off n (scores_in sheet.now p n) }
-{
-    let m = scale::half_of(n);
-    let k = first_off(sheet, p, m);
-    if k < m {
-        return scale::fault_at(n, k);
-    }
-    Finding::Fine
-}
-
-// The m scores behind p bytes of notes.
+// The n(n-1)/2 scores behind p bytes of notes.
 pub fn take_scores(sheet: &[u8], p: usize, n: usize, scores: &mut [i16])
     requires n_bound { n ≤ 128 }
     requires sheet_len { length sheet.now ≡ sheet_length p n }
     requires n_in_bounds { half n ≤ length scores.old }
     ensures { scores.new ≡ paste scores.old 0 (scores_in sheet.now p n) (half n) }
 {
-    let m = scale::half_of(n);
-    let mut k = 0;
-    while k < m {
-        let s = signed2(sheet, p + 2 * k);
-        scores[k] = s;
-        k += 1;
+    for (k, s) in scores[..scale::half_of(n)].iter_mut().enumerate() {
+        *s = score_at(sheet, p, k);
     }
-}
-
-// v into the two bytes at a place.
-fn put2(buf: &mut [u8], at: usize, v: u16)
-    requires { at + 2 ≤ length buf.old }
-    ensures { buf.new ≡ set (set buf.old at (v % 256)) (at + 1) (v / 256) }
-{
-    buf[at] = (v % 256) as u8;
-    buf[at + 1] = (v / 256) as u8;
 }
 
 // The notes, from the buffer's start.
@@ -94,11 +60,7 @@ pub fn put_notes(buf: &mut [u8], notes: &[u8])
     requires { length notes.now ≤ length buf.old }
     ensures { buf.new ≡ paste buf.old 0 notes.now (length notes.now) }
 {
-    let mut k = 0;
-    while k < notes.len() {
-        buf[k] = notes[k];
-        k += 1;
-    }
+    buf[..notes.len()].copy_from_slice(notes);
 }
 
 // The scores, from the start of the part of the buffer that is lent.
@@ -106,11 +68,8 @@ pub fn put_scores(buf: &mut [u8], scores: &[i16])
     requires { 2 * length scores.now ≤ length buf.old }
     ensures { buf.new ≡ paste buf.old 0 (score_bytes scores.now) (2 * length scores.now) }
 {
-    let mut k = 0;
-    while k < scores.len() {
-        let v = signed::bits_of(scores[k]);
-        put2(buf, 2 * k, v);
-        k += 1;
+    for (k, s) in scores.iter().enumerate() {
+        buf[2 * k..2 * k + 2].copy_from_slice(&s.to_le_bytes());
     }
 }
 
@@ -121,11 +80,9 @@ pub fn put_trailer(buf: &mut [u8], p: usize, n: usize, t: i16)
     requires n_bound { n ≤ 128 }
     ensures { buf.new ≡ paste buf.old 0 (trailer p n t) 8 }
 {
-    put2(buf, 0, p as u16);
-    put2(buf, 2, 0);
-    put2(buf, 4, n as u16);
-    let v = signed::bits_of(t);
-    put2(buf, 6, v);
+    buf[..4].copy_from_slice(&(p as u32).to_le_bytes());
+    buf[4..6].copy_from_slice(&(n as u16).to_le_bytes());
+    buf[6..8].copy_from_slice(&t.to_le_bytes());
 }
 
 // p, n and t of a sheet that has a trailer.
@@ -215,7 +172,8 @@ pub fn sheet_fault(sheet: &[u8]) -> Finding
         return found;
     }
     if scale::on_scale(threshold_of(sheet)) {
-        return off_scale(sheet, notes_of(sheet), size_of(sheet));
+        let p = notes_of(sheet);
+        return scale::off_scale(size_of(sheet), |k| score_at(sheet, p, k));
     }
     Finding::Fault {
         number: 5,

@@ -1,12 +1,12 @@
 -- `sheet_fault` meets its contract: the layout, the threshold, the scores. Assumes nothing.
+use Rattle.std.proofs.Common.{rules}
 use Prim.Native.Nat.{ℕ}
-use mathlib.Core.Path.{sym, ◌∙◌, ap, ap₂}
+use mathlib.Core.Path.{sym, ◌∙◌, ap}
 use native.Mathlib.Omega.{arith}
 use Rattle.scores.proofs.Complement.{back}
-use Rattle.scores.proofs.Sheets.{laid, layout_refused, threshold_off_lem, scores_decide}
-use Rattle.scores.specs.Inner.{scores_in}
+use Rattle.scores.proofs.Sheets.{laid, layout_refused, threshold_off_lem, scores_decide, score_inside, score_listed}
 use Rattle.scores.specs.Scale.{on_scale, scores_off}
-use Rattle.scores.specs.Sheet.{scores_of, sheet_length}
+use Rattle.scores.specs.Sheet.{scores_of}
 use Rattle.scores.proofs.sheet.sheet_fault.Goals as goal
 
 pub returns-in-Fault : goal.returns-in-Fault
@@ -18,8 +18,8 @@ threshold_of-requires c =
     let right = sym c.in_default.is ∙ c.layout_fault-found.ensures in
     (laid c.args.sheet.now right).trailed
 
-pub notes_of-requires : goal.notes_of-requires
-notes_of-requires c =
+pub notes_of-p-requires : goal.notes_of-p-requires
+notes_of-p-requires c =
     let right = sym c.in_default.is ∙ c.layout_fault-found.ensures in
     (laid c.args.sheet.now right).trailed
 
@@ -33,21 +33,22 @@ off_scale-requires c =
     let right = sym c.in_default.is ∙ c.layout_fault-found.ensures in
     let ok = laid c.args.sheet.now right in
     let z = c.size_of.ensures in
-    let p = c.notes_of.ensures in
     record {
       n_bound = omega (arith, ok.few);
-      sheet_len = ok.long ∙ sym (ap₂ sheet_length p z);
+      callable = λ k h.
+        let inside = score_inside c.args.sheet.now c.notes_of-p.ensures z h ok in
+        search rules;
     }
 
 pub returns-then-on_scale : goal.returns-then-on_scale
-unfolding scores_of
 returns-then-on_scale c =
     let right = sym c.in_default.is ∙ c.layout_fault-found.ensures in
     let t = back c.threshold_of.result c.threshold_of.type_inv ∙ c.threshold_of.ensures in
     let on = sym (ap on_scale t) ∙ sym c.on_scale.ensures in
     let z = c.size_of.ensures in
-    let p = c.notes_of.ensures in
-    scores_decide c.args.sheet.now right (on ∙ c.if-on_scale.true) _ (c.off_scale.ensures ∙ ap₂ (λ (x y : ℕ). scores_off y (scores_in c.args.sheet.now x y)) p z)
+    let off = c.off_scale.ensures (scores_of c.args.sheet.now) (λ k s h e.
+      score_listed c.args.sheet.now c.notes_of-p.ensures z h (search rules)) in
+    scores_decide c.args.sheet.now right (on ∙ c.if-on_scale.true) _ (off ∙ ap (λ (x : ℕ). scores_off x (scores_of c.args.sheet.now)) z)
 
 pub returns : goal.returns
 returns c =
