@@ -23,7 +23,7 @@ use Rattle.scores.specs.Scale.{half, on_scale, threshold_off, scores_off, edge_b
 use Rattle.scores.specs.Drawing.{wrong_count, checks, Promise}
 use Rattle.scores.proofs.Squares.{length_square}
 use Rattle.scores.proofs.Passes.{graph_passes, prices_pass, prices_free}
-use Rattle.lines.specs.Inner.{Checked, Ready, Paged}
+use Rattle.lines.specs.Inner.{Checked, Ready}
 use Rattle.lines.specs.Report.{Searched}
 use Rattle.lines.proofs.Mending.{pair_two}
 
@@ -73,12 +73,12 @@ module _ (n : ℕ) (t : ℤ) (scores : List ℤ) (g ps : List ℕ) (ready : Read
           loose = loose;
         }
 
-    pub drawn_paged :
-        {old now : List ℕ} {next : ℕ} → Paged (Searched n (edge n g') (toll_of ps')) old next now →
-        Paged (Searched n (edge n (square n (edge_byte n t scores))) (toll_of (square n (price_entry n t scores)))) old next now
-    drawn_paged {old} {now} {next} page =
-        subst (λ a. Paged (Searched n (edge n a) (toll_of (square n (price_entry n t scores)))) old next now) graph_drawn
-        (subst (λ b. Paged (Searched n (edge n g') (toll_of b)) old next now) prices_drawn page)
+    pub drawn_lines :
+        {now : List ℕ} → Searched n (edge n g') (toll_of ps') now →
+        Searched n (edge n (square n (edge_byte n t scores))) (toll_of (square n (price_entry n t scores))) now
+    drawn_lines {now} page =
+        subst (λ a. Searched n (edge n a) (toll_of (square n (price_entry n t scores))) now) graph_drawn
+        (subst (λ b. Searched n (edge n g') (toll_of b) now) prices_drawn page)
 
 -- the graph and the prices of scores that pass their checks, by themselves
 module _
@@ -149,11 +149,8 @@ module _ (n : ℕ) {t u : ℤ} (list : List ℤ) (same : u ≡ t) (few : n ≤ 1
         costs = length-take-le (n * n) prices (omega (arith, squares_few n few));
       }
 
-  pub list_paged :
-      {old now : List ℕ} {next : ℕ} →
-      Paged (Searched n (edge n (square n (edge_byte n u firsts))) (toll_of (square n (price_entry n u firsts)))) old next now →
-      Paged
-      (Searched n (edge n (square n (edge_byte n t (take (half n) list))))
-      (toll_of (square n (price_entry n t (take (half n) list)))))
-      old next now
-  list_paged {old} {now} {next} page = rw (firsts_told, same) at page
+  pub list_lines :
+      {now : List ℕ} → Searched n (edge n (square n (edge_byte n u firsts))) (toll_of (square n (price_entry n u firsts))) now →
+      Searched n (edge n (square n (edge_byte n t (take (half n) list))))
+      (toll_of (square n (price_entry n t (take (half n) list)))) now
+  list_lines page = rw (firsts_told, same) at page

@@ -30,10 +30,8 @@ use Rattle.search.specs.declared.Answer.TheVariants.{Refused, Stopped, Nothing, 
 use Rattle.search.specs.Answer.{Promise, Over, Best, checks, too_large}
 use Rattle.search.specs.Memory.{pairs}
 use Rattle.lines.specs.Lines.{stopped_line, vertices_line, answer_line, change_lines, tree_lines}
-use Rattle.lines.specs.Put.{Put}
-use Rattle.lines.specs.Inner.{drawn_of, Paged, Checked}
+use Rattle.lines.specs.Inner.{drawn_of, Checked}
 use Rattle.lines.specs.Report as report
-use Rattle.lines.proofs.Behind.{put_as}
 use Rattle.lines.proofs.Bounds.{page_short}
 use Rattle.lines.proofs.Mending.{listed_inside}
 use Rattle.lines.proofs.Drawn.{fine_drawn}
@@ -82,15 +80,8 @@ module _ (n : ℕ) (g ps list : List ℕ) (ok : Checked n g ps) (room : length l
 
   -- it is stopped
   module _ {steps : ℕ} {after : List ℕ} (over : Over true n (edge n g) (toll_of ps) report.budget report.limit list steps after) where
-    pub stopped_paged :
-        {old now : List ℕ} {next : ℕ} → Put old 0 (stopped_line steps) next now →
-        Paged (report.Searched n (edge n g) (toll_of ps)) old next now
-    stopped_paged put =
-        record {
-          lines = stopped_line report.limit;
-          right = inl (record { over = over.more; line = refl });
-          put = put_as (ap stopped_line over.limit) put;
-        }
+    pub stopped_lines : {now : List ℕ} → now ≡ stopped_line steps → report.Searched n (edge n g) (toll_of ps) now
+    stopped_lines put = inl (record { over = over.more; line = put ∙ ap stopped_line over.limit })
 
   -- it finds a repair
   module _ {cost count steps : ℕ} {after : List ℕ} (best : Best true n (edge n g) (toll_of ps) report.budget report.limit list cost count steps after) where
@@ -145,12 +136,5 @@ module _ (n : ℕ) (g ps list : List ℕ) (ok : Checked n g ps) (room : length l
         ap page listed ∙
         ap₂ (λ c s. (vertices_line n ++ answer_line c (length found) s) ++ change_lines n (edge n g) found ++ tree_lines n (toggled n (edge n g) found)) best.paid best.counted
 
-    pub repaired_paged :
-        {old now : List ℕ} {next : ℕ} → Put old 0 (page (take count after)) next now →
-        Paged (report.Searched n (edge n g) (toll_of ps)) old next now
-    repaired_paged put =
-        record {
-          lines = report.page_of n (edge n g) (toll_of ps) found;
-          right = inr (record { within = best.within; repair = found; best = best.best; lines = refl });
-          put = put_as whole put;
-        }
+    pub repaired_lines : {now : List ℕ} → now ≡ page (take count after) → report.Searched n (edge n g) (toll_of ps) now
+    repaired_lines put = inr (record { within = best.within; repair = found; best = best.best; lines = put ∙ whole })

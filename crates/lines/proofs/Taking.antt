@@ -23,24 +23,18 @@ use Rattle.scores.specs.Reader.{sheet_fault, no_room, checks, refusal, Filled, P
 use Rattle.scores.proofs.Squares.{length_each}
 use Rattle.scores.proofs.Sheets.{sound}
 use Rattle.lines.specs.Lines.{refusal_line}
-use Rattle.lines.specs.Put.{Put}
-use Rattle.lines.specs.Inner.{Paged}
 use Rattle.lines.specs.Report.{Searched, Said, Lines, fault, graph_of, prices_of}
-use Rattle.lines.proofs.Behind.{put_as}
 use Rattle.lines.proofs.Searching.{pairs_few}
 
 module _ (sheet : List ℕ) where
   -- what is said of a finding is said of the sheet
-  paged : {old now lines : List ℕ} {next : ℕ} {x : Finding} → fault sheet ≡ x → Said sheet x lines → Put old 0 lines next now → Paged (Lines sheet) old next now
-  paged {lines = lines} e said put =
-      record { lines = lines; right = subst (λ x. Said sheet x lines) (sym e) said; put = put }
+  lines : (now : List ℕ) {x : Finding} → fault sheet ≡ x → Said sheet x now → Lines sheet now
+  lines now e said = subst (λ x. Said sheet x now) (sym e) said
 
   -- "Input above 49,032 bytes gets 11."
-  pub long_paged :
-      {old now : List ℕ} {next : ℕ} → 49032 < length sheet → Put old 0 (refusal_line 11 0 0) next now →
-      Paged (Lines sheet) old next now
+  pub long_lines : {now : List ℕ} → 49032 < length sheet → now ≡ refusal_line 11 0 0 → Lines sheet now
   unfolding fault
-  long_paged h put = paged (first_of_here _ _ (row_holds 11 (lt-ltb 49032 (length sheet) h))) refl put
+  long_lines {now} h put = lines now (first_of_here _ _ (row_holds 11 (lt-ltb 49032 (length sheet) h))) put
 
   module _ (short : length sheet ≤ 49032) where
     read_fault : fault sheet ≡ sheet_fault sheet
@@ -62,13 +56,12 @@ module _ (sheet : List ℕ) where
         same_fault = read_fault ∙ sym (wide (sheet_fault sheet) refl) ∙ sym told.refused
 
         -- "any refusal prints one line"
-        pub refused_paged :
-            {old now : List ℕ} {next number i j : ℕ} → r ≡ Refused number i j →
-            Put old 0 (refusal_line (number_of (refusal r)) (row_of (refusal r)) (column_of (refusal r))) next now →
-            Paged (Lines sheet) old next now
-        refused_paged e put =
-            paged (same_fault ∙ ap refusal e) refl
-            (put_as (ap (λ (x : Reading). refusal_line (number_of (refusal x)) (row_of (refusal x)) (column_of (refusal x))) e) put)
+        pub refused_lines :
+            {now : List ℕ} {number i j : ℕ} → r ≡ Refused number i j →
+            now ≡ refusal_line (number_of (refusal r)) (row_of (refusal r)) (column_of (refusal r)) → Lines sheet now
+        refused_lines {now} e put =
+            lines now (same_fault ∙ ap refusal e)
+            (put ∙ ap (λ (x : Reading). refusal_line (number_of (refusal x)) (row_of (refusal x)) (column_of (refusal x))) e)
 
         -- the sheet is read
         module _ {p n : ℕ} {t u : ℤ} (e : r ≡ Sheet p n t) (same : u ≡ t) where
@@ -102,12 +95,9 @@ module _ (sheet : List ℕ) where
                 ),
               )
 
-          pub listed_paged :
-              {old now : List ℕ} {next : ℕ} →
-              Paged
-              (Searched n (edge n (square n (edge_byte n u (take (half n) after))))
-              (toll_of (square n (price_entry n u (take (half n) after)))))
-              old next now → Paged (Lines sheet) old next now
+          pub listed_lines :
+              {now : List ℕ} →
+              Searched n (edge n (square n (edge_byte n u (take (half n) after))))
+              (toll_of (square n (price_entry n u (take (half n) after)))) now → Lines sheet now
           unfolding graph_of prices_of
-          listed_paged page =
-              paged (read_fault ∙ sym right) ((rw (scores_told, same, filled.threshold, sized) at page.right)) page.put
+          listed_lines {now} page = lines now (read_fault ∙ sym right) ((rw (scores_told, same, filled.threshold, sized) at page))

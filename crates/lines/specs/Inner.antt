@@ -6,7 +6,6 @@ use Rattle.graph.specs.Check.{entries}
 use Rattle.graph.specs.Price.{price_entries}
 use Rattle.repair.specs.Pair.{is_pair}
 use Rattle.scores.specs.Scale.{half, on_scale, scores_off, square}
-use Rattle.lines.specs.Put.{Put}
 
 -- the graph with the edges e as "n x n bytes, row by row: 0 or 1"
 unfoldable pub drawn_of : ℕ → (ℕ → ℕ → Bool) → List ℕ
@@ -15,12 +14,6 @@ drawn_of n e = square n (λ i j. pick (e i j) 1 0)
 -- the entry at p turned over: 0 where it is 1, else 1
 unfoldable pub turned : List ℕ → ℕ → List ℕ
 turned g p = set g p (pick (eqb (get_or g p 0) 1) 0 1)
-
--- the lines for which P holds stand at the start of a text
-pub record Paged (P : List ℕ → Type 0) (before : List ℕ) (next : ℕ) (after : List ℕ) : Type 0 where
-  pub lines : List ℕ
-  pub right : P lines
-  pub put : Put before 0 lines next after
 
 -- bytes and prices that pass their checks, with no fixed pair
 pub record Checked (n : ℕ) (graph prices : List ℕ) : Type 0 where

@@ -9,6 +9,8 @@ mod page;
 mod sheet;
 mod text;
 
+use text::Page;
+
 // What `report` answers: a refusal with its number and place, or the length of the lines.
 #[derive(Clone, Copy)]
 pub enum Answer {
@@ -26,8 +28,10 @@ pub enum Answer {
 pub fn report(sheet: &[u8], text: &mut [u8]) -> Answer
     ensures { Promise sheet.now text.old result text.new }
 {
-    let mut page = [0u8; 131072];
-    let size = sheet::lines_of(sheet, &mut page);
+    let mut page = Page::new();
+    sheet::lines_of(sheet, &mut page);
+    let lines = page.written();
+    let size = lines.len();
     if text.len() < size {
         return Answer::Refused {
             number: 10,
@@ -35,6 +39,6 @@ pub fn report(sheet: &[u8], text: &mut [u8]) -> Answer
             column: 0,
         };
     }
-    text::put(text, 0, &page[..size]);
+    text[..size].copy_from_slice(lines);
     Answer::Written { size }
 }

@@ -5,27 +5,27 @@ use Rattle.lines.proofs.Behind.{room_as, put_as, first_room, then_room, both}
 use Rattle.lines.proofs.Changing.{parent_none, parent_some}
 use Rattle.lines.proofs.page.parent.Goals as goal
 
-pub said-next-requires : goal.said-next-requires
-said-next-requires c =
-    first_room c.args.page.now c.args.at (said (bytes "parent ") c.args.v) (bytes " -\n")
-    (room_as c.args.at (parent_none c.args.v c.args.p c.if-p-eq65535.true) c.requires)
+pub said-requires : goal.said-requires
+said-requires c =
+    first_room c.args.page.now (said (bytes "parent ") c.args.v) (bytes " -\n")
+    (room_as c.args.page.now (parent_none c.args.v c.args.p c.if-p-eq65535.true) c.requires)
 
 pub put-requires : goal.put-requires
 put-requires c =
-    then_room c.args.page.now c.args.at (said (bytes "parent ") c.args.v) (bytes " -\n")
-    (room_as c.args.at (parent_none c.args.v c.args.p c.if-p-eq65535.true) c.requires) c.said-next.ensures
+    then_room c.args.page.now (said (bytes "parent ") c.args.v) (bytes " -\n")
+    (room_as c.args.page.now (parent_none c.args.v c.args.p c.if-p-eq65535.true) c.requires) c.said.ensures
 
 pub returns-then-p-eq65535 : goal.returns-then-p-eq65535
 returns-then-p-eq65535 c =
     let e = parent_none c.args.v c.args.p c.if-p-eq65535.true in
-    put_as e
-    (both c.args.page.now c.args.at (said (bytes "parent ") c.args.v) (bytes " -\n") (room_as c.args.at e c.requires)
-    c.said-next.ensures c.put.ensures)
+    put_as c.args.page.now e
+    (both c.args.page.now (said (bytes "parent ") c.args.v) (bytes " -\n") (room_as c.args.page.now e c.requires)
+    c.said.ensures c.put.ensures)
 
 pub two-requires : goal.two-requires
 two-requires c =
-    room_as c.args.at (parent_some c.args.v c.args.p c.if-p-eq65535.false) c.requires
+    room_as c.args.page.now (parent_some c.args.v c.args.p c.if-p-eq65535.false) c.requires
 
 pub returns : goal.returns
 returns c =
-    put_as (parent_some c.args.v c.args.p c.if-p-eq65535.false) c.two.ensures
+    put_as c.args.page.now (parent_some c.args.v c.args.p c.if-p-eq65535.false) c.two.ensures

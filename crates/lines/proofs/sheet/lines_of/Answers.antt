@@ -7,21 +7,21 @@ use mir.Syntax.{w16}
 use mir.ValLaws.{to_z-of_z}
 use Rattle.scores.proofs.OnScale.{on_lift}
 use Rattle.lines.proofs.Bounds.{refusal_short}
-use Rattle.lines.proofs.Taking.{long_paged, refused_paged, listed_right, listed_paged}
+use Rattle.lines.proofs.Behind.{room_alone, put_alone}
+use Rattle.lines.proofs.Taking.{long_lines, refused_lines, listed_right, listed_lines}
 use Rattle.lines.proofs.sheet.lines_of.Goals as goal
 
 pub three-requires : goal.three-requires
 three-requires c =
-    let short = refusal_short 11 0 0 (omega arith) (omega arith) (omega arith) in
-    omega (arith, c.requires)
+    room_alone c.requires _ (refusal_short 11 0 0 (omega arith) (omega arith) (omega arith))
 
 pub returns-then-sheet-gt49032 : goal.returns-then-sheet-gt49032
 returns-then-sheet-gt49032 c =
-    long_paged c.args.sheet.now c.if-sheet-gt49032.true c.three.ensures
+    long_lines c.args.sheet.now c.if-sheet-gt49032.true (put_alone c.requires c.three.ensures)
 
 pub returns-in_default : goal.returns-in_default
 returns-in_default c =
-    refused_paged c.args.sheet.now c.if-sheet-gt49032.false _ (length-replicate {A = ℤ} 8128 (pos 0)) c.read-answer.ensures c.in_default.is c.refused.ensures
+    refused_lines c.args.sheet.now c.if-sheet-gt49032.false _ (length-replicate {A = ℤ} 8128 (pos 0)) c.read-answer.ensures c.in_default.is c.refused.ensures
 
 pub listed-requires : goal.listed-requires
 listed-requires c =
@@ -31,11 +31,11 @@ listed-requires c =
     record {
       n_bound = all.0;
       t_value = all.1;
-      in_bounds = c.requires;
+      empty = c.requires;
     }
 
 pub returns : goal.returns
 returns c =
     let right = listed_right c.args.sheet.now c.if-sheet-gt49032.false _ (length-replicate {A = ℤ} 8128 (pos 0)) c.read-answer.ensures c.in-Sheet.is refl c.read-answer.auto.scores in
     let t = to_z-of_z w16 c.in-Sheet.t (on_lift c.in-Sheet.t right.1.0).2 in
-    listed_paged c.args.sheet.now c.if-sheet-gt49032.false _ (length-replicate {A = ℤ} 8128 (pos 0)) c.read-answer.ensures c.in-Sheet.is t c.listed.ensures
+    listed_lines c.args.sheet.now c.if-sheet-gt49032.false _ (length-replicate {A = ℤ} 8128 (pos 0)) c.read-answer.ensures c.in-Sheet.is t c.listed.ensures
