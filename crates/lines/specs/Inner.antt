@@ -1,7 +1,6 @@
 -- What the inner functions promise their callers. No entry point's promise cites a definition of this file. Assumes nothing.
 use Rattle.std.specs.Prelude.{◌≡◌, Bool, true, List, ℕ, ◌*◌, ◌≤◌, length, get_or, set, ℤ, eqb}
 use Rattle.bits.specs.Choice.{pick}
-use Rattle.graph.specs.declared.Finding.TheVariants.{Fine}
 use Rattle.graph.specs.Check.{entries}
 use Rattle.graph.specs.Price.{price_entries}
 use Rattle.repair.specs.Pair.{is_pair}
@@ -20,8 +19,8 @@ pub record Checked (n : ℕ) (graph prices : List ℕ) : Type 0 where
   pub few : n ≤ 128
   pub bytes : length graph ≡ n * n
   pub costs : length prices ≡ n * n
-  pub fine : entries n graph ≡ Fine
-  pub priced : price_entries n prices ≡ Fine
+  pub fine : entries n graph ≡ Ok tt
+  pub priced : price_entries n prices ≡ Ok tt
   pub loose : (x : ℕ) → is_pair n x ≡ true → (1 ≤ get_or prices x 0) × (get_or prices x 0 ≤ 10000)
 
 -- scores that pass their checks, and room for the graph and the prices
@@ -29,6 +28,6 @@ pub record Ready (n : ℕ) (t : ℤ) (scores : List ℤ) (graph prices : List �
   pub few : n ≤ 128
   pub counted : length scores ≡ half n
   pub scale : on_scale t ≡ true
-  pub scored : Fine ≡ scores_off n scores
+  pub scored : Ok tt ≡ scores_off n scores
   pub bytes : length graph ≡ n * n
   pub costs : length prices ≡ n * n

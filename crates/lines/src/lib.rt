@@ -9,23 +9,11 @@ mod page;
 mod sheet;
 mod text;
 
+use graph::Refusal;
 use text::Page;
 
-// What `report` answers: a refusal with its number and place, or the length of the lines.
-#[derive(Clone, Copy)]
-pub enum Answer {
-    Refused {
-        number: u32,
-        row: usize,
-        column: usize,
-    },
-    Written {
-        size: usize,
-    },
-}
-
-// The lines of any input, from the text's start.
-pub fn report(sheet: &[u8], text: &mut [u8]) -> Answer
+// The lines of any input, from the text's start, and their length.
+pub fn report(sheet: &[u8], text: &mut [u8]) -> Result<usize, Refusal>
     ensures { Promise sheet.now text.old result text.new }
 {
     let mut page = Page::new();
@@ -33,12 +21,8 @@ pub fn report(sheet: &[u8], text: &mut [u8]) -> Answer
     let lines = page.written();
     let size = lines.len();
     if text.len() < size {
-        return Answer::Refused {
-            number: 10,
-            row: 0,
-            column: 0,
-        };
+        return Err(Refusal::NoRoom);
     }
     text[..size].copy_from_slice(lines);
-    Answer::Written { size }
+    Ok(size)
 }

@@ -1,33 +1,33 @@
 // The lines of a sheet: what the reader refuses, the search, the repair and its forest.
 ghost use Rattle.std.specs.Prelude.{◌≡◌, true, [], ◌++◌, ◌+◌, ◌*◌, ◌≤◌, ◌<◌, length, take, ℤ};
-ghost use Rattle.graph.specs.declared.Finding.TheVariants.{Fine};
 ghost use Rattle.graph.specs.Graph.{edge, IsGraph};
 ghost use Rattle.graph.specs.Check.{entries};
 ghost use Rattle.graph.specs.Quad.{Clean};
-ghost use Rattle.graph.specs.Refusal.{number_of, row_of, column_of};
+ghost use Rattle.graph.specs.Refusal.{refusal, number_of, row_of, column_of};
 ghost use Rattle.repair.specs.Pair.{is_pair, all, ascending};
 ghost use Rattle.repair.specs.Repair.{toggled, toll_of};
 ghost use Rattle.scores.specs.Scale.{half, on_scale, scores_off, edge_byte, price_entry, square};
-ghost use Rattle.scores.specs.Reader.{refusal};
 ghost use Rattle.lines.specs.Lines.{refusal_line, vertices_line, answer_line, change_lines, tree_lines};
 ghost use Rattle.lines.specs.Inner.{drawn_of, Checked, Ready};
 ghost use Rattle.lines.specs.Report.{Searched, Lines};
 
 use crate::text::{Page, ROOM};
 use crate::{mend, page};
-use scores::Reading;
+use forest::Answer::Forest;
+use graph::Refusal;
+use scores::Trailer;
+use search::Answer::{Nothing, Repaired, Stopped};
 
 // The parents of a clean graph, and how many groups they make.
 fn trees(page: &mut Page, n: usize, graph: &[u8])
-    requires n_bound { (n ≤ 128) × (length graph.now ≡ n * n) × (entries n graph.now ≡ Fine) }
+    requires n_bound { (n ≤ 128) × (length graph.now ≡ n * n) × (entries n graph.now ≡ Ok tt) }
     requires clean { Clean n (edge n graph.now) }
     requires graph_in_bounds { length page.old + length (tree_lines n (edge n graph.now)) ≤ ROOM }
     ensures { page.new ≡ page.old ++ tree_lines n (edge n graph.now) }
 {
     let mut list = [0u16; 128];
-    let answer = forest::forest(n, graph, &mut list);
-    let forest::Answer::Forest { groups } = answer else {
-        return;
+    let Ok(Forest { groups }) = forest::forest(n, graph, &mut list) else {
+        unreachable!();
     };
     page::parents(page, n, &list);
     page.one(b"groups ", groups);
@@ -63,27 +63,25 @@ fn searched(page: &mut Page, n: usize, graph: &mut [u8], prices: &[u16])
     ensures { Searched n (edge n graph.old) (toll_of prices.now) page.new }
 {
     let mut list = [0u16; 8128];
-    let answer = search::pruned(n, graph, prices, 81280000, 1000000, &mut list);
-    match answer {
-        search::Answer::Repaired {
-            price,
-            pairs,
-            steps,
-        } => mended(
-            page,
-            n,
-            graph,
-            &list[..pairs],
-            price as usize,
-            steps as usize,
-        ),
-        search::Answer::Stopped { steps } => page.one(b"answer 9 steps ", steps as usize),
-        search::Answer::Nothing { steps: _ } => (),
-        search::Answer::Refused {
-            number: _,
-            row: _,
-            column: _,
-        } => (),
+    match search::pruned(n, graph, prices, 81280000, 1000000, &mut list) {
+        Ok(
+            Repaired {
+                price,
+                pairs,
+                steps,
+            },
+        ) => {
+            mended(
+                page,
+                n,
+                graph,
+                &list[..pairs],
+                price as usize,
+                steps as usize,
+            );
+        }
+        Ok(Stopped { steps }) => page.one(b"answer 9 steps ", steps as usize),
+        Ok(Nothing { .. }) | Err(_) => unreachable!(),
     }
 }
 
@@ -93,14 +91,14 @@ fn drawn(page: &mut Page, n: usize, t: i16, scores: &[i16], graph: &mut [u8], pr
     requires empty { page.old ≡ [] }
     ensures { Searched n (edge n (square n (edge_byte n t scores.now))) (toll_of (square n (price_entry n t scores.now))) page.new }
 {
-    scores::to_graph(n, t, scores, graph, prices);
+    let _ = scores::to_graph(n, t, scores, graph, prices);
     searched(page, n, graph, prices);
 }
 
 // The lines of a sheet of n vertices with the threshold t, whose scores are the list's first.
 fn listed(page: &mut Page, n: usize, t: i16, list: &[i16])
     requires n_bound { (n ≤ 128) × (half n ≤ length list.now) }
-    requires t_value { (on_scale t ≡ true) × (Fine ≡ scores_off n (take (half n) list.now)) }
+    requires t_value { (on_scale t ≡ true) × (Ok tt ≡ scores_off n (take (half n) list.now)) }
     requires empty { page.old ≡ [] }
     ensures { Searched n (edge n (square n (edge_byte n t (take (half n) list.now)))) (toll_of (square n (price_entry n t (take (half n) list.now)))) page.new }
 {
@@ -119,18 +117,22 @@ fn listed(page: &mut Page, n: usize, t: i16, list: &[i16])
 }
 
 // The line of what the reader refuses.
-fn refused(page: &mut Page, answer: Reading)
+fn refused(page: &mut Page, read: Result<Trailer, Refusal>)
     requires { page.old ≡ [] }
-    ensures { page.new ≡ refusal_line (number_of (refusal answer)) (row_of (refusal answer)) (column_of (refusal answer)) }
+    ensures { page.new ≡ refusal_line (number_of (refusal read)) (row_of (refusal read)) (column_of (refusal read)) }
 {
-    match answer {
-        Reading::Refused {
-            number,
-            row,
-            column,
-        } => page.three(b"answer ", number as usize, b" place ", row, b" ", column),
-        Reading::Sheet { p: _, n: _, t: _ } => page.three(b"answer ", 0, b" place ", 0, b" ", 0),
-    }
+    let Err(refusal) = read else {
+        return page.three(b"answer ", 0, b" place ", 0, b" ", 0);
+    };
+    let (row, column) = refusal.place();
+    page.three(
+        b"answer ",
+        refusal.number() as usize,
+        b" place ",
+        row,
+        b" ",
+        column,
+    );
 }
 
 // All lines of an input.
@@ -139,14 +141,12 @@ pub fn lines_of(sheet: &[u8], page: &mut Page)
     ensures { Lines sheet.now page.new }
 {
     if 49032 < sheet.len() {
-        page.three(b"answer ", 11, b" place ", 0, b" ", 0);
-        return;
+        return refused(page, Err(Refusal::BadSheet));
     }
     let mut list = [0i16; 8128];
-    let answer = scores::read(sheet, &mut list);
-    let Reading::Sheet { p: _, n, t } = answer else {
-        refused(page, answer);
-        return;
+    let read = scores::read(sheet, &mut list);
+    let Ok(Trailer { n, t, .. }) = read else {
+        return refused(page, read);
     };
     listed(page, n, t, &list);
 }

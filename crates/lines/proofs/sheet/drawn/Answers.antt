@@ -1,7 +1,7 @@
 -- `drawn` meets its contract: what is drawn passes the checks of the search. Assumes nothing.
 use mir.Syntax.{w16}
 use mir.ValLaws.{to_z-of_z}
-use Rattle.lines.proofs.Drawing.{checked, drawn_lines}
+use Rattle.lines.proofs.Drawing.{checked, drawn_paged}
 use Rattle.lines.proofs.sheet.drawn.Goals as goal
 
 pub searched-requires : goal.searched-requires
@@ -13,4 +13,4 @@ searched-requires c =
 
 pub returns : goal.returns
 returns c =
-    drawn_lines c.args.n c.args.t c.args.scores.now c.args.graph.now c.args.prices.now c.requires.ready (to_z-of_z w16 c.args.t c.ranges.t) c.to_graph.ensures c.searched.ensures
+    drawn_paged c.args.n c.args.t c.args.scores.now c.args.graph.now c.args.prices.now c.requires.ready (to_z-of_z w16 c.args.t c.ranges.t) c.to_graph.ensures c.searched.ensures

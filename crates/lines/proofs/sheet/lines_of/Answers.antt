@@ -8,7 +8,7 @@ use mir.ValLaws.{to_z-of_z}
 use Rattle.scores.proofs.OnScale.{on_lift}
 use Rattle.lines.proofs.Bounds.{refusal_short}
 use Rattle.lines.proofs.Behind.{room_alone, put_alone}
-use Rattle.lines.proofs.Taking.{long_lines, refused_lines, listed_right, listed_lines}
+use Rattle.lines.proofs.Taking.{long_paged, refused_paged, listed_right, listed_paged}
 use Rattle.lines.proofs.sheet.lines_of.Goals as goal
 
 pub three-requires : goal.three-requires
@@ -17,11 +17,11 @@ three-requires c =
 
 pub returns-then-sheet-gt49032 : goal.returns-then-sheet-gt49032
 returns-then-sheet-gt49032 c =
-    long_lines c.args.sheet.now c.if-sheet-gt49032.true (put_alone c.requires c.three.ensures)
+    long_paged c.args.sheet.now c.if-sheet-gt49032.true (put_alone c.requires c.three.ensures)
 
 pub returns-in_default : goal.returns-in_default
 returns-in_default c =
-    refused_lines c.args.sheet.now c.if-sheet-gt49032.false _ (length-replicate {A = ℤ} 8128 (pos 0)) c.read-answer.ensures c.in_default.is c.refused.ensures
+    refused_paged c.args.sheet.now c.if-sheet-gt49032.false _ (length-replicate {A = ℤ} 8128 (pos 0)) c.read-answer.ensures c.in_default.is c.refused.ensures
 
 pub listed-requires : goal.listed-requires
 listed-requires c =
@@ -38,4 +38,4 @@ pub returns : goal.returns
 returns c =
     let right = listed_right c.args.sheet.now c.if-sheet-gt49032.false _ (length-replicate {A = ℤ} 8128 (pos 0)) c.read-answer.ensures c.in-Sheet.is refl c.read-answer.auto.scores in
     let t = to_z-of_z w16 c.in-Sheet.t (on_lift c.in-Sheet.t right.1.0).2 in
-    listed_lines c.args.sheet.now c.if-sheet-gt49032.false _ (length-replicate {A = ℤ} 8128 (pos 0)) c.read-answer.ensures c.in-Sheet.is t c.listed.ensures
+    listed_paged c.args.sheet.now c.if-sheet-gt49032.false _ (length-replicate {A = ℤ} 8128 (pos 0)) c.read-answer.ensures c.in-Sheet.is t c.listed.ensures

@@ -6,7 +6,7 @@ use lib.ListN.{length-replicate}
 use lib.Seq.{length-take-le}
 use mir.Syntax.{w16}
 use mir.ValLaws.{to_z-of_z}
-use Rattle.lines.proofs.Drawing.{half_told, squares_few, list_ready, list_lines}
+use Rattle.lines.proofs.Drawing.{half_told, squares_few, list_ready, list_paged}
 use Rattle.lines.proofs.sheet.listed.Goals as goal
 
 pub overflow_mul-entries : goal.overflow_mul-entries
@@ -47,4 +47,4 @@ drawn-requires c =
 
 pub returns : goal.returns
 returns c =
-    list_lines c.args.n c.args.list.now (to_z-of_z w16 c.args.t c.ranges.t) c.requires.n_bound.0 c.requires.n_bound.1 c.drawn.ensures
+    list_paged c.args.n c.args.list.now (to_z-of_z w16 c.args.t c.ranges.t) c.requires.n_bound.0 c.requires.n_bound.1 c.drawn.ensures

@@ -6,7 +6,7 @@ use lib.ListN.{length-replicate}
 use lib.Seq.{length-take-le}
 use Rattle.lines.proofs.Behind.{room_alone, put_alone}
 use Rattle.lines.proofs.Bounds.{stopped_short}
-use Rattle.lines.proofs.Searching.{not_refused, not_nothing, stopped, repaired, stopped_lines, repaired_lines, list_room, page_room, list_right, graph_right}
+use Rattle.lines.proofs.Searching.{not_refused, not_nothing, stopped, repaired, stopped_paged, repaired_paged, list_room, page_room, list_right, graph_right}
 use Rattle.lines.proofs.sheet.searched.Goals as goal
 
 pub slice_bounds-list-end : goal.slice_bounds-list-end
@@ -41,13 +41,13 @@ pub returns-in-Repaired : goal.returns-in-Repaired
 returns-in-Repaired c =
     let room = length-replicate {A = ℕ} 8128 0 in
     let best = repaired c.args.n c.args.graph.now c.args.prices.now _ c.requires.checked room c.pruned-answer.ensures c.in-Repaired.is in
-    repaired_lines c.args.n c.args.graph.now c.args.prices.now _ c.requires.checked room best (put_alone c.requires.empty c.mended.ensures)
+    repaired_paged c.args.n c.args.graph.now c.args.prices.now _ c.requires.checked room best (put_alone c.requires.empty c.mended.ensures)
 
 pub returns-in-Stopped : goal.returns-in-Stopped
 returns-in-Stopped c =
     let room = length-replicate {A = ℕ} 8128 0 in
     let over = stopped c.args.n c.args.graph.now c.args.prices.now _ c.requires.checked room c.pruned-answer.ensures c.in-Stopped.is in
-    stopped_lines c.args.n c.args.graph.now c.args.prices.now _ c.requires.checked room over (put_alone c.requires.empty c.one.ensures)
+    stopped_paged c.args.n c.args.graph.now c.args.prices.now _ c.requires.checked room over (put_alone c.requires.empty c.one.ensures)
 
 pub returns-in-Nothing : goal.returns-in-Nothing
 returns-in-Nothing c =
