@@ -4,7 +4,8 @@ use mathlib.Core.Path.{◌≡◌, refl, ◌∙◌, ap, ap₂}
 use mathlib.Core.List.{List, [], ◌∷◌, ◌++◌}
 use Prim.Native.Nat.{ℕ, zero, suc, ◌*◌, ◌≤◌, ◌<◌}
 use native.Mathlib.Omega.{arith}
-use lib.ListN.{length, get_or, drop, get_or-append}
+use lib.ListN.{length, get_or, take, drop, get_or-append}
+use lib.Seq.{length-take-le, get_or-take}
 use borrow.Author.Tests.{le-ltb, eq-eqb}
 use Rattle.bits.proofs.Truth.{not_off}
 use Rattle.std.specs.Prelude.{Result, Ok, Err}
@@ -32,6 +33,14 @@ pub each_alike : {f g : ℕ → List ℕ} (n : ℕ) → ((k : ℕ) → k < n →
 unfolding each
 each_alike zero h = refl
 each_alike (suc n) h = ap₂ ◌++◌ (each_alike n (λ k l. h k (omega arith))) (h n (omega arith))
+
+-- the list's first n entries alone
+pub firsts_told :
+    (n : ℕ) (list : List ℕ) → n ≤ length list →
+    each (length (take n list)) (λ v. parent_line v (get_or (take n list) v 0)) ≡ each n (λ v. parent_line v (get_or list v 0))
+firsts_told n list room =
+    ap (λ (m : ℕ). each m (λ v. parent_line v (get_or (take n list) v 0))) (length-take-le n list room) ∙
+    each_alike n (λ v h. ap (parent_line v) (get_or-take n list v 0 h))
 
 module _ (n : ℕ) (g out : List ℕ) (few : n ≤ 128) (long : length g ≡ n * n) (fine : entries n g ≡ Ok tt) where
   no_fault : n ≤ length out → first_of (checks n g out) ≡ Ok tt

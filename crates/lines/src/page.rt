@@ -47,13 +47,12 @@ fn parent(page: &mut Page, v: usize, p: u16)
 }
 
 // A line for each vertex.
-pub fn parents(page: &mut Page, n: usize, list: &[u16])
-    requires n_in_bounds { n ≤ length list.now }
-    requires v_in_bounds { length page.old + length (each n (λ v. parent_line v (get_or list.now v 0))) ≤ ROOM }
-    ensures { page.new ≡ page.old ++ each n (λ v. parent_line v (get_or list.now v 0)) }
+pub fn parents(page: &mut Page, list: &[u16])
+    requires { length page.old + length (each (length list.now) (λ v. parent_line v (get_or list.now v 0))) ≤ ROOM }
+    ensures { page.new ≡ page.old ++ each (length list.now) (λ v. parent_line v (get_or list.now v 0)) }
 {
-    for v in 0..n {
-        parent(page, v, list[v]);
+    for (v, p) in list.iter().enumerate() {
+        parent(page, v, *p);
     }
 }
 

@@ -29,7 +29,7 @@ fn trees(page: &mut Page, n: usize, graph: &[u8])
     let Ok(Forest { groups }) = forest::forest(n, graph, &mut list) else {
         unreachable!();
     };
-    page::parents(page, n, &list);
+    page::parents(page, &list[..n]);
     page.one(b"groups ", groups);
 }
 
