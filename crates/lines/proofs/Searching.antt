@@ -31,8 +31,8 @@ use Rattle.search.specs.declared.Answer.{Answer}
 use Rattle.search.specs.declared.Answer.TheVariants.{Stopped, Nothing, Repaired}
 use Rattle.search.specs.Answer.{Promise, Over, Best, checks, too_large}
 use Rattle.search.specs.Memory.{pairs}
-use Rattle.lines.specs.Lines.{stopped_line, vertices_line, answer_line, change_lines, tree_lines}
-use Rattle.lines.specs.Inner.{drawn_of, Checked}
+use Rattle.lines.specs.Lines.{stopped_line}
+use Rattle.lines.specs.Inner.{drawn_of, repair_lines, Checked}
 use Rattle.lines.specs.Report as report
 use Rattle.lines.proofs.Bounds.{page_short}
 use Rattle.lines.proofs.Mending.{listed_inside}
@@ -110,9 +110,7 @@ module _ (n : ℕ) (g ps list : List ℕ) (ok : Checked n g ps) (room : length l
     graph_of_lem = entries_graph n g ok.fine
 
     abbrev page : List ℕ → List ℕ
-    page repair =
-        (vertices_line n ++ answer_line cost (length repair) steps) ++ change_lines n (edge n g) repair ++
-        tree_lines n (toggled n (edge n g) repair)
+    page repair = repair_lines n (edge n g) repair cost steps
 
     pub page_room : length (page (take count after)) ≤ 131072
     page_room =
@@ -136,7 +134,7 @@ module _ (n : ℕ) (g ps list : List ℕ) (ok : Checked n g ps) (room : length l
     unfolding report.page_of
     whole =
         ap page listed ∙
-        ap₂ (λ c s. (vertices_line n ++ answer_line c (length found) s) ++ change_lines n (edge n g) found ++ tree_lines n (toggled n (edge n g) found)) best.paid best.counted
+        ap₂ (λ c s. repair_lines n (edge n g) found c s) best.paid best.counted
 
     pub repaired_paged : {now : List ℕ} → now ≡ page (take count after) → report.Searched n (edge n g) (toll_of ps) now
     repaired_paged put = inr (record { within = best.within; repair = found; best = best.best; lines = put ∙ whole })

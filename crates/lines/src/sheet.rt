@@ -7,8 +7,8 @@ ghost use Rattle.graph.specs.Refusal.{refusal, number_of, row_of, column_of};
 ghost use Rattle.repair.specs.Pair.{is_pair, all, ascending};
 ghost use Rattle.repair.specs.Repair.{toggled, toll_of};
 ghost use Rattle.scores.specs.Scale.{half, on_scale, scores_off, edge_byte, price_entry, square};
-ghost use Rattle.lines.specs.Lines.{refusal_line, vertices_line, answer_line, change_lines, tree_lines};
-ghost use Rattle.lines.specs.Inner.{drawn_of, Checked, Ready};
+ghost use Rattle.lines.specs.Lines.{refusal_line, tree_lines};
+ghost use Rattle.lines.specs.Inner.{drawn_of, first_lines, repair_lines, Checked, Ready};
 ghost use Rattle.lines.specs.Report.{Searched, Lines};
 
 use crate::text::{Page, ROOM};
@@ -37,8 +37,8 @@ fn trees(page: &mut Page, n: usize, graph: &[u8])
 fn edited(page: &mut Page, n: usize, graph: &[u8], repair: &[u16], cost: usize, steps: usize)
     requires graph_len { length graph.now ≡ n * n }
     requires repair_value { all (is_pair n) repair.now ≡ true }
-    requires repair_in_bounds { length page.old + length ((vertices_line n ++ answer_line cost (length repair.now) steps) ++ change_lines n (edge n graph.now) repair.now) ≤ ROOM }
-    ensures { page.new ≡ page.old ++ ((vertices_line n ++ answer_line cost (length repair.now) steps) ++ change_lines n (edge n graph.now) repair.now) }
+    requires repair_in_bounds { length page.old + length (first_lines n (edge n graph.now) repair.now cost steps) ≤ ROOM }
+    ensures { page.new ≡ page.old ++ first_lines n (edge n graph.now) repair.now cost steps }
 {
     page::head(page, n, cost, repair.len(), steps);
     page::changes(page, n, graph, repair);
@@ -48,8 +48,8 @@ fn edited(page: &mut Page, n: usize, graph: &[u8], repair: &[u16], cost: usize, 
 fn mended(page: &mut Page, n: usize, graph: &mut [u8], repair: &[u16], cost: usize, steps: usize)
     requires n_bound { (n ≤ 128) × (graph.old ≡ drawn_of n (edge n graph.old)) × IsGraph n (edge n graph.old) }
     requires repair_value { (ascending repair.now ≡ true) × (all (is_pair n) repair.now ≡ true) × Clean n (toggled n (edge n graph.old) repair.now) }
-    requires repair_in_bounds { length page.old + length ((vertices_line n ++ answer_line cost (length repair.now) steps) ++ change_lines n (edge n graph.old) repair.now ++ tree_lines n (toggled n (edge n graph.old) repair.now)) ≤ ROOM }
-    ensures { page.new ≡ page.old ++ ((vertices_line n ++ answer_line cost (length repair.now) steps) ++ change_lines n (edge n graph.old) repair.now ++ tree_lines n (toggled n (edge n graph.old) repair.now)) }
+    requires repair_in_bounds { length page.old + length (repair_lines n (edge n graph.old) repair.now cost steps) ≤ ROOM }
+    ensures { page.new ≡ page.old ++ repair_lines n (edge n graph.old) repair.now cost steps }
 {
     edited(page, n, graph, repair, cost, steps);
     mend::mend(graph, n, repair);

@@ -1,5 +1,6 @@
 // The page that the lines are written on, in fixed room: each word and number stands behind what is written.
 ghost use Rattle.std.specs.Prelude.{◌≡◌, ℕ, ◌+◌, ◌≤◌, List, [], ◌++◌, length, take};
+ghost use Rattle.lines.specs.declared.text.TheConstants.{ROOM};
 ghost use Rattle.lines.specs.Text.{decimal};
 ghost use Rattle.lines.specs.Lines.{said, one, two, three};
 
@@ -21,7 +22,7 @@ impl Model for Page {
 
     ghost view = { λ p. take p.end p.text };
 
-    ghost invariant = { λ p. p.end ≤ 131072 };
+    ghost invariant = { λ p. p.end ≤ ROOM };
 }
 
 impl Page {
