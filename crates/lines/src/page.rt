@@ -34,6 +34,7 @@ pub fn changes(page: &mut Page, n: usize, graph: &[u8], repair: &[u16])
 }
 
 // `parent V P`, or `parent V -` where there is none.
+#[tactic(auto, unfolding(crate::specs::Lines::parent_line))]
 fn parent(page: &mut Page, v: usize, p: u16)
     requires { length page.old + length (parent_line v p) ≤ ROOM }
     ensures { page.new ≡ page.old ++ parent_line v p }

@@ -5,14 +5,6 @@ use Rattle.lines.proofs.Behind.{room_as, put_as}
 use Rattle.lines.proofs.Changing.{change_cut, change_join}
 use Rattle.lines.proofs.page.change.Goals as goal
 
-pub nonzero_div-i : goal.nonzero_div-i
-nonzero_div-i c =
-    omega (arith, row_column c.args.n c.args.x c.requires.x_bound.0)
-
-pub nonzero_rem-j : goal.nonzero_rem-j
-nonzero_rem-j c =
-    omega (arith, row_column c.args.n c.args.x c.requires.x_bound.0)
-
 pub two-requires : goal.two-requires
 two-requires c =
     room_as c.args.page.now (change_cut c.args.n c.args.graph.now c.args.x c.requires.x_bound.0 c.if-graph-x-eq1.true) c.requires.x_in_bounds

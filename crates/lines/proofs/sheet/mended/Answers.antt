@@ -19,14 +19,6 @@ edited-requires c =
       repair_in_bounds = first_room c.args.page.now (first_lines c.args.n (edge c.args.n c.args.graph.now) c.args.repair.now c.args.cost c.args.steps) (tree_lines c.args.n (toggled c.args.n (edge c.args.n c.args.graph.now) c.args.repair.now)) c.requires.repair_in_bounds;
     }
 
-pub mend-requires : goal.mend-requires
-mend-requires c =
-    record {
-      n_bound = c.requires.n_bound.0;
-      graph_value = c.requires.n_bound.1;
-      repair_value = (c.requires.repair_value.0, c.requires.repair_value.1);
-    }
-
 pub trees-requires : goal.trees-requires
 trees-requires c =
     let same = same_edges c.args.n (edge c.args.n c.args.graph.now) c.args.repair.now c.requires.n_bound.2 c.mend.ensures in

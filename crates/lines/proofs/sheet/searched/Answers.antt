@@ -9,18 +9,6 @@ use Rattle.lines.proofs.Bounds.{stopped_short}
 use Rattle.lines.proofs.Searching.{not_refused, not_nothing, stopped, repaired, stopped_paged, repaired_paged, list_room, page_room, list_right, graph_right}
 use Rattle.lines.proofs.sheet.searched.Goals as goal
 
-pub slice_bounds-list-end : goal.slice_bounds-list-end
-slice_bounds-list-end c =
-    let room = length-replicate {A = ℕ} 8128 0 in
-    let best = repaired c.args.n c.args.graph.now c.args.prices.now _ c.requires.checked room c.pruned-answer.ensures c.in-Repaired.is in
-    list_room c.args.n c.args.graph.now c.args.prices.now _ c.requires.checked room best
-
-pub slice_bounds-mended-end : goal.slice_bounds-mended-end
-slice_bounds-mended-end c =
-    let room = length-replicate {A = ℕ} 8128 0 in
-    let best = repaired c.args.n c.args.graph.now c.args.prices.now _ c.requires.checked room c.pruned-answer.ensures c.in-Repaired.is in
-    sym (length-take-le _ _ (list_room c.args.n c.args.graph.now c.args.prices.now _ c.requires.checked room best))
-
 pub mended-requires : goal.mended-requires
 mended-requires c =
     let room = length-replicate {A = ℕ} 8128 0 in
