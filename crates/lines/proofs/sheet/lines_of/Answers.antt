@@ -7,17 +7,17 @@ use mir.Syntax.{w16}
 use mir.ValLaws.{to_z-of_z}
 use Rattle.scores.proofs.OnScale.{on_lift}
 use Rattle.lines.proofs.Bounds.{refusal_short}
+use Rattle.lines.proofs.Behind.{room_alone, put_alone}
 use Rattle.lines.proofs.Taking.{long_paged, refused_paged, listed_right, listed_paged}
 use Rattle.lines.proofs.sheet.lines_of.Goals as goal
 
 pub three-requires : goal.three-requires
 three-requires c =
-    let short = refusal_short 11 0 0 (omega arith) (omega arith) (omega arith) in
-    omega (arith, c.requires)
+    room_alone c.requires _ (refusal_short 11 0 0 (omega arith) (omega arith) (omega arith))
 
 pub returns-then-sheet-gt49032 : goal.returns-then-sheet-gt49032
 returns-then-sheet-gt49032 c =
-    long_paged c.args.sheet.now c.if-sheet-gt49032.true c.three.ensures
+    long_paged c.args.sheet.now c.if-sheet-gt49032.true (put_alone c.requires c.three.ensures)
 
 pub returns-in_default : goal.returns-in_default
 returns-in_default c =
@@ -31,7 +31,7 @@ listed-requires c =
     record {
       n_bound = all.0;
       t_value = all.1;
-      in_bounds = c.requires;
+      empty = c.requires;
     }
 
 pub returns : goal.returns
