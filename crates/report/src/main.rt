@@ -13,12 +13,12 @@ fn read_full(input: &mut impl Read, sheet: &mut [u8]) -> io::Result<usize>
     ensures { IfOk result (λ n. n ≤ length sheet.new) }
 {
     let mut got = 0;
+    // Not `for` or a chain: a read puts as many bytes as there are, and `read_exact` does not say how many it put.
     while got < sheet.len() {
-        let n = input.read(&mut sheet[got..])?;
-        if n == 0 {
-            break;
+        match input.read(&mut sheet[got..])? {
+            0 => break,
+            n => got += n,
         }
-        got += n;
     }
     Ok(got)
 }
