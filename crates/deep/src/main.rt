@@ -40,7 +40,7 @@ fn edges() -> [u8; 16384] {
 }
 
 fn ones() -> [u16; 16384] {
-    array::from_fn(|x| if x / 128 == x % 128 { 0 } else { 1 })
+    array::from_fn(|x| u16::from(x / 128 != x % 128))
 }
 
 fn main(rt: HostRuntime) -> io::Result<()> {
