@@ -1,126 +1,74 @@
 // The forest of a clean graph: its entry point, over the recogniser that takes one vertex at a time.
 #![tactic(auto)]
 
-ghost use Rattle.std.specs.Prelude.{◌≡◌, ◌++◌, [], ◌∷◌, ◌*◌, ◌≤◌, ◌<◌, length, get_or, take, drop, eqb};
-ghost use Rattle.bits.specs.Choice.{count};
+ghost use Rattle.std.specs.Prelude.{◌≡◌, ◌++◌, [], ◌∷◌, ◌*◌, ◌≤◌, ◌<◌, length, drop, eqb, count_by, Ok};
 ghost use Rattle.graph.specs.Each.{each};
 ghost use Rattle.graph.specs.Graph.{edge, word_edge, IsGraph};
-ghost use Rattle.graph.specs.declared.Finding.TheVariants.{Fine};
-ghost use Rattle.forest.specs.Answer.{Promise, Meant, refusal};
+ghost use Rattle.forest.specs.Answer.{Promise, Meant};
 ghost use Rattle.forest.specs.Order.{parent, nobody};
 ghost use Rattle.forest.specs.Forest.{roots};
 
 mod recogniser;
 
-use graph::{Finding, First};
+use graph::{Quad, Refusal};
 
-// What `forest` answers: a refusal with its number and place; the first quad of a graph that is not clean; or a forest,
-// with the number of its groups.
-#[derive(Clone, Copy)]
+// Stands in a lent list for the parent of a vertex that has none.
+const NOBODY: u16 = 65535;
+
+// What `forest` answers where it does not refuse: the first quad of a graph that is not clean; or a forest, with the number
+// of its groups.
+#[derive(Clone, Copy, Debug, PartialEq, Eq)]
 pub enum Answer {
-    Refused {
-        number: u32,
-        row: usize,
-        column: usize,
-    },
-    Spoiled(graph::Quad),
-    Forest {
-        groups: usize,
-    },
+    Spoiled(Quad),
+    Forest { groups: usize },
 }
 
-// The first n parents are copied to the front of the lent list.
-fn copy(parents: [u16; 128], n: usize, out: &mut [u16])
-    requires { (length parents ≡ 128) × (n ≤ 128) × (n ≤ length out.old) }
-    ensures { out.new ≡ take n parents ++ drop n out.old }
+// How many have no parent.
+fn roots_of(parents: &[u16]) -> usize
+    ensures { result ≡ count_by (λ p. eqb p nobody) parents.now }
 {
-    let mut i = 0;
-    while i < n {
-        out[i] = parents[i];
-        i += 1;
-    }
+    parents.iter().filter(|&&p| p == NOBODY).count()
 }
 
-// How many of the first n have no parent.
-fn roots_of(parents: [u16; 128], n: usize) -> usize
-    requires { n ≤ 128 }
-    ensures { result ≡ count (λ v. eqb (get_or parents v 0) nobody) n }
-{
-    let mut found = 0;
-    let mut i = 0;
-    while i < n {
-        if parents[i] == 65535 {
-            found += 1;
-        }
-        i += 1;
-    }
-    found
-}
-
-// The forest of a clean graph.
-fn planted(words: &[u64], n: usize, out: &mut [u16]) -> Answer
+// The forest of a clean graph, and the number of its groups.
+fn planted(words: &[u64], n: usize, out: &mut [u16]) -> usize
     requires { (length words.now ≡ 256) × (n ≤ 128) × (n ≤ length out.old) × IsGraph n (word_edge words.now) }
-    ensures { (result ≡ Answer.Forest (roots n (parent n (word_edge words.now))))
+    ensures { (result ≡ roots n (parent n (word_edge words.now)))
         × (out.new ≡ each n (λ v. parent n (word_edge words.now) v ∷ []) ++ drop n out.old) }
 {
     let parents = recogniser::parents_of(words, n);
-    copy(parents, n, out);
-    Answer::Forest {
-        groups: roots_of(parents, n),
-    }
+    out[..n].copy_from_slice(&parents[..n]);
+    roots_of(&parents[..n])
 }
 
 // The answer for a graph that passed its checks, with room for its forest.
 fn judged(n: usize, g: &[u8], out: &mut [u16]) -> Answer
     requires { (n ≤ 128) × (length g.now ≡ n * n) × (n ≤ length out.old) × IsGraph n (edge n g.now) }
-    ensures { (refusal result ≡ Fine) × Meant n g.now out.old result out.new }
+    ensures { Meant n g.now out.old (Ok result) out.new }
 {
     let rows = graph::rows::rows_of(n, g);
     let words = graph::rows::flat_of(rows);
-    let found = graph::seek::first_quad(&words, n);
-    if let First::At(q) = found {
-        return Answer::Spoiled(q);
+    match graph::seek::first_quad(&words, n) {
+        Some(quad) => Answer::Spoiled(quad),
+        None => Answer::Forest {
+            groups: planted(&words, n, out),
+        },
     }
-    planted(&words, n, out)
 }
 
 // The forest of a graph of n vertices, lent as n x n bytes: its parents go to the first n entries of `out`.
-pub fn forest(n: usize, g: &[u8], out: &mut [u16]) -> Answer
+pub fn forest(n: usize, g: &[u8], out: &mut [u16]) -> Result<Answer, Refusal>
     ensures { Promise n g.now out.old result out.new }
 {
     if 128 < n {
-        return Answer::Refused {
-            number: 1,
-            row: 0,
-            column: 0,
-        };
+        return Err(Refusal::TooManyVertices);
     }
     if g.len() != n * n {
-        return Answer::Refused {
-            number: 2,
-            row: 0,
-            column: 0,
-        };
+        return Err(Refusal::WrongLength);
     }
-    let found = graph::check::entries_of(n, g);
-    if let Finding::Fault {
-        number,
-        row,
-        column,
-    } = found
-    {
-        return Answer::Refused {
-            number,
-            row,
-            column,
-        };
-    }
+    graph::check::entries_of(n, g)?;
     if out.len() < n {
-        return Answer::Refused {
-            number: 10,
-            row: 0,
-            column: 0,
-        };
+        return Err(Refusal::NoRoom);
     }
-    judged(n, g, out)
+    Ok(judged(n, g, out))
 }

@@ -12,10 +12,11 @@ use borrow.Author.Tests.{eq-eqb, ne_eqb, lt-ltb, le-ltb}
 use lib.Dec.{ltb, eqb}
 use Rattle.bits.specs.Choice.{pick}
 use Rattle.bits.proofs.Truth.{equal, or_right}
-use Rattle.graph.specs.declared.Finding.{Finding}
-use Rattle.graph.specs.declared.Finding.TheVariants.{Fine, Fault}
+use Rattle.std.specs.Prelude.{Ok, Err}
+use Rattle.graph.specs.declared.Refusal.{Refusal}
+use Rattle.graph.specs.declared.Refusal.TheVariants.{BadEntry, Lopsided}
 use Rattle.graph.specs.Each.{each}
-use Rattle.graph.specs.Refusal.{first_of}
+use Rattle.graph.specs.Refusal.{Finding, first_of}
 use Rattle.graph.specs.Check.{entry}
 use Rattle.graph.proofs.Leading.{first_of_leading, each_nothing, each_leads, fault_not_fine}
 use Rattle.graph.proofs.Reading.{value, bad, entry_three, entry_four, entry_fine}
@@ -50,29 +51,29 @@ module _ (n : ℕ) (g : List ℕ) (i j : ℕ) where
     bad_most : bad n g i j ≡ ltb m (value n g i j)
     bad_most = rw most bad_above
 
-    pub above_fault : m < value n g i j → Fault 3 i j ≡ entry n g i j
+    pub above_fault : m < value n g i j → Err (BadEntry i j) ≡ entry n g i j
     above_fault h = sym (entry_three n g i j (bad_most ∙ lt-ltb m (value n g i j) h))
 
-    pub unlike_fault : value n g i j ≤ m → value n g i j ≢ value n g j i → Fault 4 i j ≡ entry n g i j
+    pub unlike_fault : value n g i j ≤ m → value n g i j ≢ value n g j i → Err (Lopsided i j) ≡ entry n g i j
     unlike_fault h d = sym (entry_four n g i j (bad_most ∙ le-ltb m (value n g i j) h) d)
 
-    pub like_fine : value n g i j ≤ m → value n g i j ≡ value n g j i → Fine ≡ entry n g i j
+    pub like_fine : value n g i j ≤ m → value n g i j ≡ value n g j i → Ok tt ≡ entry n g i j
     like_fine h e = sym (entry_fine n g i j (bad_most ∙ le-ltb m (value n g i j) h) e)
 
 -- nothing is found before place k
 abbrev pub Quiet : (ℕ → List Finding) → ℕ → Type 0
-Quiet f k = (b : ℕ) → b < k → first_of (f b) ≡ Fine
+Quiet f k = (b : ℕ) → b < k → first_of (f b) ≡ Ok tt
 
 module _ (f : ℕ → List Finding) where
   pub quiet_none : Quiet f 0
   quiet_none b h = absurd (omega arith)
 
-  pub quiet_next : (k : ℕ) → Quiet f k → first_of (f k) ≡ Fine → Quiet f (k + 1)
+  pub quiet_next : (k : ℕ) → Quiet f k → first_of (f k) ≡ Ok tt → Quiet f (k + 1)
   quiet_next k before here = below_more _ k before here
 
   -- nothing is found before k, and something at k: that is the answer
   pub found_here :
-      {x : Finding} {number i j : ℕ} (n k : ℕ) → k < n → Quiet f k → x ≡ first_of (f k) → x ≡ Fault number i j →
+      {x : Finding} {r : Refusal} (n k : ℕ) → k < n → Quiet f k → x ≡ first_of (f k) → x ≡ Err r →
       x ≡ first_of (each n f)
   found_here {x} n k h before here fault =
       sym
@@ -80,5 +81,5 @@ module _ (f : ℕ → List Finding) where
       (record { place = k; within = h; says = sym here; earlier = before }))
 
   -- nothing is found at all
-  pub quiet_end : (n k : ℕ) → n ≤ k → Quiet f k → Fine ≡ first_of (each n f)
+  pub quiet_end : (n k : ℕ) → n ≤ k → Quiet f k → Ok tt ≡ first_of (each n f)
   quiet_end n k past before = sym (each_nothing first_of_leading n f (λ b h. before b (omega arith)))

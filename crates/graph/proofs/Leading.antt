@@ -7,12 +7,10 @@ use mathlib.Core.List.{List, [], ◌∷◌, ◌++◌}
 use Prim.Native.Nat.{ℕ, zero, suc, ◌<◌}
 use native.Mathlib.Omega.{arith}
 use Rattle.graph.specs.declared.Quad.{Quad}
-use Rattle.graph.specs.declared.First.{First}
-use Rattle.graph.specs.declared.First.TheVariants.{At, Clear}
-use Rattle.graph.specs.declared.Finding.{Finding}
-use Rattle.graph.specs.declared.Finding.TheVariants.{Fine, Fault}
+use Rattle.std.specs.Prelude.{Option, Some, None, Ok, Err}
+use Rattle.graph.specs.declared.Refusal.{Refusal}
 use Rattle.graph.specs.Each.{each}
-use Rattle.graph.specs.Refusal.{first_of}
+use Rattle.graph.specs.Refusal.{Finding, first_of}
 use Rattle.graph.specs.Quad.{first}
 use Rattle.graph.proofs.Listing.{below_suc}
 
@@ -85,43 +83,43 @@ module _ {A M : Type 0} {nothing : M} {h : List A → M} (lead : Leading nothing
           let l = L.within in
           record { place = L.place; within = omega arith; says = L.says; earlier = L.earlier }
 
-pub at_not_clear : {q : Quad} → At q ≢ Clear
-at_not_clear {q} p = let z : ◌≡◌ {A = ℕ} 0 1 = cc in omega arith
+pub some_not_none : {q : Quad} → Some q ≢ None
+some_not_none {q} p = let z : ◌≡◌ {A = ℕ} 0 1 = cc in omega arith
 
 -- the first quad of a listing
-pub first_leading : Leading Clear first
+pub first_leading : Leading None first
 first_leading = record { empty = refl; skips = skips; stays = stays; decides = decides }
   where
-    skips : (xs ys : List Quad) → first xs ≡ Clear → first (xs ++ ys) ≡ first ys
+    skips : (xs ys : List Quad) → first xs ≡ None → first (xs ++ ys) ≡ first ys
     skips [] ys p = refl
-    skips (x ∷ xs) ys p = absurd (at_not_clear p)
+    skips (x ∷ xs) ys p = absurd (some_not_none p)
 
-    stays : (xs ys : List Quad) → first xs ≢ Clear → first (xs ++ ys) ≡ first xs
+    stays : (xs ys : List Quad) → first xs ≢ None → first (xs ++ ys) ≡ first xs
     stays [] ys p = absurd (p refl)
     stays (x ∷ xs) ys p = refl
 
-    decides : (m : First) → (m ≡ Clear) ⊎ (m ≢ Clear)
-    decides (At q) = inr at_not_clear
-    decides Clear = inl refl
+    decides : (m : Option Quad) → (m ≡ None) ⊎ (m ≢ None)
+    decides (Some q) = inr some_not_none
+    decides None = inl refl
 
-pub fault_not_fine : {k i j : ℕ} → Fault k i j ≢ Fine
-fault_not_fine {k} {i} {j} p = let z : ◌≡◌ {A = ℕ} 0 1 = cc in omega arith
+pub fault_not_fine : {r : Refusal} → ◌≢◌ {A = Finding} (Err r) (Ok tt)
+fault_not_fine {r} p = let z : ◌≡◌ {A = ℕ} 0 1 = cc in omega arith
 
 -- the first check that finds something
-pub first_of_leading : Leading Fine first_of
+pub first_of_leading : Leading (Ok tt) first_of
 unfolding first_of
 first_of_leading = record { empty = refl; skips = skips; stays = stays; decides = decides }
   where
-    skips : (xs ys : List Finding) → first_of xs ≡ Fine → first_of (xs ++ ys) ≡ first_of ys
+    skips : (xs ys : List Finding) → first_of xs ≡ Ok tt → first_of (xs ++ ys) ≡ first_of ys
     skips [] ys p = refl
-    skips (Fine ∷ xs) ys p = skips xs ys p
-    skips (Fault k i j ∷ xs) ys p = absurd (fault_not_fine p)
+    skips (Ok done ∷ xs) ys p = skips xs ys p
+    skips (Err r ∷ xs) ys p = absurd (fault_not_fine p)
 
-    stays : (xs ys : List Finding) → first_of xs ≢ Fine → first_of (xs ++ ys) ≡ first_of xs
+    stays : (xs ys : List Finding) → first_of xs ≢ Ok tt → first_of (xs ++ ys) ≡ first_of xs
     stays [] ys p = absurd (p refl)
-    stays (Fine ∷ xs) ys p = stays xs ys p
-    stays (Fault k i j ∷ xs) ys p = refl
+    stays (Ok done ∷ xs) ys p = stays xs ys p
+    stays (Err r ∷ xs) ys p = refl
 
-    decides : (m : Finding) → (m ≡ Fine) ⊎ (m ≢ Fine)
-    decides (Fault k i j) = inr fault_not_fine
-    decides Fine = inl refl
+    decides : (m : Finding) → (m ≡ Ok tt) ⊎ (m ≢ Ok tt)
+    decides (Err r) = inr fault_not_fine
+    decides (Ok done) = inl refl

@@ -28,8 +28,10 @@ use Rattle.bits.proofs.Truth.{
   pick_true,
   pick_false,
 }
-use Rattle.graph.specs.declared.Finding.{Finding}
-use Rattle.graph.specs.declared.Finding.TheVariants.{Fine, Fault}
+use Rattle.std.specs.Prelude.{Ok, Err}
+use Rattle.graph.specs.declared.Refusal.{Refusal}
+use Rattle.graph.specs.declared.Refusal.TheVariants.{BadEntry, Lopsided}
+use Rattle.graph.specs.Refusal.{Finding, row_at, column_at}
 use Rattle.graph.specs.Graph.{IsGraph, edge}
 use Rattle.graph.specs.Check.{entry, entries}
 use Rattle.graph.proofs.Leading.{fault_not_fine}
@@ -45,41 +47,45 @@ bad n g i j = ltb 1 (value n g i j) || (eqb i j && not (eqb (value n g i j) 0))
 
 -- 3 where the entry is bad, 4 where it is not and differs from its mirror
 pub data Verdict (n : ℕ) (g : List ℕ) (i j : ℕ) : Finding → Type 0 where
-  three : bad n g i j ≡ true → Verdict n g i j (Fault 3 i j)
-  four : bad n g i j ≡ false → value n g i j ≢ value n g j i → Verdict n g i j (Fault 4 i j)
-  fine : bad n g i j ≡ false → value n g i j ≡ value n g j i → Verdict n g i j Fine
+  three : bad n g i j ≡ true → Verdict n g i j (Err (BadEntry i j))
+  four : bad n g i j ≡ false → value n g i j ≢ value n g j i → Verdict n g i j (Err (Lopsided i j))
+  fine : bad n g i j ≡ false → value n g i j ≡ value n g j i → Verdict n g i j (Ok tt)
 
 verdict_fine :
-    {n : ℕ} {g : List ℕ} {i j : ℕ} {x : Finding} → Verdict n g i j x → x ≡ Fine →
+    {n : ℕ} {g : List ℕ} {i j : ℕ} {x : Finding} → Verdict n g i j x → x ≡ Ok tt →
     (bad n g i j ≡ false) × (value n g i j ≡ value n g j i)
 verdict_fine (three b) p = absurd (fault_not_fine p)
 verdict_fine (four b d) p = absurd (fault_not_fine p)
 verdict_fine (fine b d) p = (b, d)
 
+-- two refusals that are equal are at one place
+placed : (s r : Refusal) → ◌≡◌ {A = Finding} (Err s) (Err r) → (row_at r ≡ row_at s) × (column_at r ≡ column_at s)
+placed s r p = let e : r ≡ s = cc in rw e (refl, refl)
+
 verdict_place :
-    {n : ℕ} {g : List ℕ} {i j : ℕ} {x : Finding} → Verdict n g i j x → (k i' j' : ℕ) → x ≡ Fault k i' j' →
-    (i' ≡ i) × (j' ≡ j)
-verdict_place (three b) k i' j' p = (cc, cc)
-verdict_place (four b d) k i' j' p = (cc, cc)
-verdict_place (fine b d) k i' j' p = absurd (fault_not_fine (sym p))
+    {n : ℕ} {g : List ℕ} {i j : ℕ} {x : Finding} → Verdict n g i j x → (r : Refusal) → x ≡ Err r →
+    (row_at r ≡ i) × (column_at r ≡ j)
+verdict_place (three b) r p = placed (BadEntry _ _) r p
+verdict_place (four b d) r p = placed (Lopsided _ _) r p
+verdict_place (fine b d) r p = absurd (fault_not_fine (sym p))
 
 module _ (n : ℕ) (g : List ℕ) (i j : ℕ) where
   -- the three cases of an entry
-  pub entry_three : bad n g i j ≡ true → entry n g i j ≡ Fault 3 i j
+  pub entry_three : bad n g i j ≡ true → entry n g i j ≡ Err (BadEntry i j)
   unfolding entry
-  entry_three p = pick_true (Fault 3 i j) (pick (eqb (value n g i j) (value n g j i)) Fine (Fault 4 i j)) p
+  entry_three p = pick_true (Err (BadEntry i j)) (pick (eqb (value n g i j) (value n g j i)) (Ok tt) (Err (Lopsided i j))) p
 
-  pub entry_four : bad n g i j ≡ false → value n g i j ≢ value n g j i → entry n g i j ≡ Fault 4 i j
+  pub entry_four : bad n g i j ≡ false → value n g i j ≢ value n g j i → entry n g i j ≡ Err (Lopsided i j)
   unfolding entry
   entry_four p q =
-      pick_false (Fault 3 i j) (pick (eqb (value n g i j) (value n g j i)) Fine (Fault 4 i j)) p ∙
-      pick_false Fine (Fault 4 i j) (ne_eqb (value n g i j) (value n g j i) q)
+      pick_false (Err (BadEntry i j)) (pick (eqb (value n g i j) (value n g j i)) (Ok tt) (Err (Lopsided i j))) p ∙
+      pick_false (Ok tt) (Err (Lopsided i j)) (ne_eqb (value n g i j) (value n g j i) q)
 
-  pub entry_fine : bad n g i j ≡ false → value n g i j ≡ value n g j i → entry n g i j ≡ Fine
+  pub entry_fine : bad n g i j ≡ false → value n g i j ≡ value n g j i → entry n g i j ≡ Ok tt
   unfolding entry
   entry_fine p q =
-      pick_false (Fault 3 i j) (pick (eqb (value n g i j) (value n g j i)) Fine (Fault 4 i j)) p ∙
-      pick_true Fine (Fault 4 i j) (eq-eqb (value n g i j) (value n g j i) q)
+      pick_false (Err (BadEntry i j)) (pick (eqb (value n g i j) (value n g j i)) (Ok tt) (Err (Lopsided i j))) p ∙
+      pick_true (Ok tt) (Err (Lopsided i j)) (eq-eqb (value n g i j) (value n g j i) q)
 
   pub verdict : Verdict n g i j (entry n g i j)
   verdict = go (which (bad n g i j)) (which (eqb (value n g i j) (value n g j i)))
@@ -121,29 +127,29 @@ module _ (n : ℕ) (g : List ℕ) (i j : ℕ) where
 
 -- faults of an entry are at its own place
 pub entry_own : (n : ℕ) (g : List ℕ) → OwnPlace (entry n g)
-entry_own n g i j k i' j' p = verdict_place (verdict n g i j) k i' j' p
+entry_own n g i j r p = verdict_place (verdict n g i j) r p
 
 module _ (n : ℕ) (g : List ℕ) where
   -- nothing is found exactly where every entry is fine
-  pub entries_fine : entries n g ≡ Fine → (i j : ℕ) → i < n → j < n → entry n g i j ≡ Fine
+  pub entries_fine : entries n g ≡ Ok tt → (i j : ℕ) → i < n → j < n → entry n g i j ≡ Ok tt
   unfolding entries
   entries_fine = grid_fine n (entry n g)
 
-  pub fine_entries : ((i j : ℕ) → i < n → j < n → entry n g i j ≡ Fine) → entries n g ≡ Fine
+  pub fine_entries : ((i j : ℕ) → i < n → j < n → entry n g i j ≡ Ok tt) → entries n g ≡ Ok tt
   unfolding entries
   fine_entries = fine_grid n (entry n g)
 
   -- 3 or 4 is given exactly at the first entry at fault
-  pub entries_fault : {k i j : ℕ} → entries n g ≡ Fault k i j → AtFault n (entry n g) k i j
+  pub entries_fault : {r : Refusal} → entries n g ≡ Err r → AtFault n (entry n g) r
   unfolding entries
   entries_fault = grid_fault n (entry n g) (entry_own n g)
 
-  pub fault_entries : {k i j : ℕ} → AtFault n (entry n g) k i j → entries n g ≡ Fault k i j
+  pub fault_entries : {r : Refusal} → AtFault n (entry n g) r → entries n g ≡ Err r
   unfolding entries
   fault_entries = fault_grid n (entry n g)
 
   -- of a matrix with no fault: its entries are 0 or 1, 0 on the diagonal, and equal to their mirrors
-  module _ (ok : entries n g ≡ Fine) where
+  module _ (ok : entries n g ≡ Ok tt) where
     pub entries_small : (i j : ℕ) → i < n → j < n → value n g i j ≤ 1
     entries_small i j l l' = good_small n g i j (verdict_fine (verdict n g i j) (entries_fine ok i j l l')).0
 
@@ -168,7 +174,7 @@ unfolding edge
 value_edge n g i j l l' p = and_in (and_in (lt-ltb i n l) (lt-ltb j n l')) (eq-eqb (value n g i j) 1 p)
 
 -- a matrix with no fault is a graph
-pub entries_graph : (n : ℕ) (g : List ℕ) → entries n g ≡ Fine → IsGraph n (edge n g)
+pub entries_graph : (n : ℕ) (g : List ℕ) → entries n g ≡ Ok tt → IsGraph n (edge n g)
 entries_graph n g ok = record { inside = inside; loopless = loopless; mirrored = mirrored }
   where
     inside : (i j : ℕ) → edge n g i j ≡ true → (i < n) × (j < n)

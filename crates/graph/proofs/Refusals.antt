@@ -6,90 +6,90 @@ use mathlib.Core.List.{List, [], ◌∷◌}
 use Prim.Native.Nat.{ℕ, zero, suc, ◌<◌}
 use native.Mathlib.Omega.{arith}
 use lib.ListN.{get_or}
-use Rattle.graph.specs.declared.Finding.{Finding}
-use Rattle.graph.specs.declared.Finding.TheVariants.{Fine, Fault}
-use Rattle.graph.specs.Refusal.{row, first_of}
+use Rattle.std.specs.Prelude.{Ok, Err}
+use Rattle.graph.specs.declared.Refusal.{Refusal}
+use Rattle.graph.specs.Refusal.{Finding, row, first_of}
 use Rattle.graph.proofs.Leading.{fault_not_fine}
 
 -- position k of the checks finds this, and no earlier one finds anything
-pub record Found (xs : List Finding) (number i j : ℕ) : Type 0 where
+pub record Found (xs : List Finding) (r : Refusal) : Type 0 where
   pub position : ℕ
-  pub finds : get_or xs position Fine ≡ Fault number i j
-  pub earlier : (m : ℕ) → m < position → get_or xs m Fine ≡ Fine
+  pub finds : get_or xs position (Ok tt) ≡ Err r
+  pub earlier : (m : ℕ) → m < position → get_or xs m (Ok tt) ≡ Ok tt
 
-pub first_of_found : (xs : List Finding) (number i j : ℕ) → first_of xs ≡ Fault number i j → Found xs number i j
+pub first_of_found : (xs : List Finding) (r : Refusal) → first_of xs ≡ Err r → Found xs r
 unfolding first_of
-first_of_found [] number i j p = absurd (fault_not_fine (sym p))
-first_of_found (Fault number' i' j' ∷ xs) number i j p =
+first_of_found [] r p = absurd (fault_not_fine (sym p))
+first_of_found (Err r' ∷ xs) r p =
     record { position = 0; finds = p; earlier = λ m l. absurd (omega arith) }
-first_of_found (Fine ∷ xs) number i j p = go (first_of_found xs number i j p)
+first_of_found (Ok done ∷ xs) r p = go (first_of_found xs r p)
   where
-    go : Found xs number i j → Found (Fine ∷ xs) number i j
+    go : Found xs r → Found (Ok done ∷ xs) r
     go F = record { position = suc F.position; finds = F.finds; earlier = earlier }
       where
-        earlier : (m : ℕ) → m < suc F.position → get_or (Fine ∷ xs) m Fine ≡ Fine
+        earlier : (m : ℕ) → m < suc F.position → get_or (Ok done ∷ xs) m (Ok tt) ≡ Ok tt
         earlier zero l = refl
         earlier (suc m) l = F.earlier m (omega arith)
 
-pub found_first_of : (xs : List Finding) (number i j : ℕ) → Found xs number i j → first_of xs ≡ Fault number i j
+pub found_first_of : (xs : List Finding) (r : Refusal) → Found xs r → first_of xs ≡ Err r
 unfolding first_of
-found_first_of [] number i j F = absurd (fault_not_fine (sym F.finds))
-found_first_of (x ∷ xs) number i j F = go (found_first_of xs number i j) F.position x F.finds F.earlier
+found_first_of [] r F = absurd (fault_not_fine (sym F.finds))
+found_first_of (x ∷ xs) r F = go (found_first_of xs r) F.position x F.finds F.earlier
   where
     go :
-        (Found xs number i j → first_of xs ≡ Fault number i j) → (k : ℕ) (y : Finding) →
-        get_or (y ∷ xs) k Fine ≡ Fault number i j → ((m : ℕ) → m < k → get_or (y ∷ xs) m Fine ≡ Fine) →
-        first_of (y ∷ xs) ≡ Fault number i j
-    go below zero Fine p h = absurd (fault_not_fine (sym p))
-    go below zero (Fault number' i' j') p h = p
-    go below (suc k) Fine p h =
+        (Found xs r → first_of xs ≡ Err r) → (k : ℕ) (y : Finding) →
+        get_or (y ∷ xs) k (Ok tt) ≡ Err r → ((m : ℕ) → m < k → get_or (y ∷ xs) m (Ok tt) ≡ Ok tt) →
+        first_of (y ∷ xs) ≡ Err r
+    go below zero (Ok tt) p h = absurd (fault_not_fine (sym p))
+    go below zero (Err r') p h = p
+    go below (suc k) (Ok tt) p h =
         below (record { position = k; finds = p; earlier = λ m l. h (suc m) (omega arith) })
-    go below (suc k) (Fault number' i' j') p h = absurd (fault_not_fine (h 0 (omega arith)))
+    go below (suc k) (Err r') p h = absurd (fault_not_fine (h 0 (omega arith)))
 
 -- nothing is given exactly where no check finds anything
-pub first_of_fine : (xs : List Finding) → first_of xs ≡ Fine → (k : ℕ) → get_or xs k Fine ≡ Fine
+pub first_of_fine : (xs : List Finding) → first_of xs ≡ Ok tt → (k : ℕ) → get_or xs k (Ok tt) ≡ Ok tt
 unfolding first_of
 first_of_fine [] p k = refl
-first_of_fine (Fault number i j ∷ xs) p k = absurd (fault_not_fine p)
-first_of_fine (Fine ∷ xs) p zero = refl
-first_of_fine (Fine ∷ xs) p (suc k) = first_of_fine xs p k
+first_of_fine (Err r ∷ xs) p k = absurd (fault_not_fine p)
+first_of_fine (Ok done ∷ xs) p zero = refl
+first_of_fine (Ok done ∷ xs) p (suc k) = first_of_fine xs p k
 
-pub fine_first_of : (xs : List Finding) → ((k : ℕ) → get_or xs k Fine ≡ Fine) → first_of xs ≡ Fine
+pub fine_first_of : (xs : List Finding) → ((k : ℕ) → get_or xs k (Ok tt) ≡ Ok tt) → first_of xs ≡ Ok tt
 unfolding first_of
 fine_first_of [] h = refl
-fine_first_of (Fault number i j ∷ xs) h = absurd (fault_not_fine (h 0))
-fine_first_of (Fine ∷ xs) h = fine_first_of xs (λ k. h (suc k))
+fine_first_of (Err r ∷ xs) h = absurd (fault_not_fine (h 0))
+fine_first_of (Ok done ∷ xs) h = fine_first_of xs (λ k. h (suc k))
 
 -- one check more in front
-pub first_of_next : (x : Finding) (xs : List Finding) → x ≡ Fine → first_of (x ∷ xs) ≡ first_of xs
+pub first_of_next : (x : Finding) (xs : List Finding) → x ≡ Ok tt → first_of (x ∷ xs) ≡ first_of xs
 unfolding first_of
 first_of_next x xs p = rw p refl
 
-pub first_of_here : (x : Finding) (xs : List Finding) {k i j : ℕ} → x ≡ Fault k i j → first_of (x ∷ xs) ≡ Fault k i j
+pub first_of_here : (x : Finding) (xs : List Finding) {r : Refusal} → x ≡ Err r → first_of (x ∷ xs) ≡ Err r
 unfolding first_of
 first_of_here x xs p = rw p refl
 
 pub first_of_single : (x : Finding) → first_of (x ∷ []) ≡ x
 unfolding first_of
-first_of_single Fine = refl
-first_of_single (Fault k i j) = refl
+first_of_single (Ok done) = refl
+first_of_single (Err r) = refl
 
--- a row of the table finds its number, at (0, 0), exactly where it holds
-pub row_holds : (number : ℕ) {b : Bool} → b ≡ true → row number b ≡ Fault number 0 0
+-- a row of the table finds its refusal exactly where it holds
+pub row_holds : (r : Refusal) {b : Bool} → b ≡ true → row r b ≡ Err r
 unfolding row
-row_holds number p = rw p refl
+row_holds r p = rw p refl
 
-pub row_passes : (number : ℕ) {b : Bool} → b ≡ false → row number b ≡ Fine
+pub row_passes : (r : Refusal) {b : Bool} → b ≡ false → row r b ≡ Ok tt
 unfolding row
-row_passes number p = rw p refl
+row_passes r p = rw p refl
 
-pub row_fine : (number : ℕ) (b : Bool) → row number b ≡ Fine → b ≡ false
+pub row_fine : (r : Refusal) (b : Bool) → row r b ≡ Ok tt → b ≡ false
 unfolding row
-row_fine number true p = absurd (fault_not_fine p)
-row_fine number false p = refl
+row_fine r true p = absurd (fault_not_fine p)
+row_fine r false p = refl
 
 pub row_fault :
-    (number : ℕ) (b : Bool) {k i j : ℕ} → row number b ≡ Fault k i j → (b ≡ true) × (k ≡ number) × (i ≡ 0) × (j ≡ 0)
+    (r : Refusal) (b : Bool) {s : Refusal} → row r b ≡ Err s → (b ≡ true) × (s ≡ r)
 unfolding row
-row_fault number true p = (refl, cc, cc, cc)
-row_fault number false p = absurd (fault_not_fine (sym p))
+row_fault r true p = (refl, cc)
+row_fault r false p = absurd (fault_not_fine (sym p))

@@ -1,10 +1,9 @@
 -- Prices, and number 6 of "Numbers returned". Assumes nothing.
-use Rattle.std.specs.Prelude.{ℕ, ◌+◌, ◌*◌, Bool, ◌&&◌, ◌||◌, List, [], ◌∷◌, get_or, leb, eqb}
+use Rattle.std.specs.Prelude.{ℕ, ◌+◌, ◌*◌, Bool, ◌&&◌, ◌||◌, List, [], ◌∷◌, get_or, leb, eqb, Ok, Err}
 use Rattle.bits.specs.Choice.{pick}
-use Rattle.graph.specs.declared.Finding.{Finding}
-use Rattle.graph.specs.declared.Finding.TheVariants.{Fine, Fault}
+use Rattle.graph.specs.declared.Refusal.TheVariants.{BadPrice}
 use Rattle.graph.specs.Each.{each}
-use Rattle.graph.specs.Refusal.{first_of}
+use Rattle.graph.specs.Refusal.{Finding, first_of}
 
 -- "65,535 for a pair that is fixed and may not be changed"
 abbrev pub fixed : ℕ
@@ -17,7 +16,7 @@ priced i j p = pick (eqb i j) (eqb p 0) ((leb 1 p && leb p 10000) || eqb p fixed
 -- 6: "price outside the rule, or differs from its mirror", here at row i, column j
 unfoldable pub price_entry : ℕ → List ℕ → ℕ → ℕ → Finding
 price_entry n ps i j =
-    pick (priced i j (get_or ps (i * n + j) 0) && eqb (get_or ps (i * n + j) 0) (get_or ps (j * n + i) 0)) Fine (Fault 6 i j)
+    pick (priced i j (get_or ps (i * n + j) 0) && eqb (get_or ps (i * n + j) 0) (get_or ps (j * n + i) 0)) (Ok tt) (Err (BadPrice i j))
 
 -- "the first at fault row by row"
 unfoldable pub price_entries : ℕ → List ℕ → Finding

@@ -1,24 +1,39 @@
 // The checks 3 and 4 of a graph's entries, row by row. The callers check its size and its length first.
-ghost use Rattle.std.specs.Prelude.{◌≡◌, [], ◌∷◌, ◌*◌, ◌≤◌, ◌<◌, length, eqb};
+ghost use Rattle.std.specs.Prelude.{◌≡◌, ℕ, [], ◌∷◌, ◌*◌, ◌≤◌, ◌<◌, length, eqb};
 ghost use Rattle.bits.specs.Choice.{pick};
 ghost use Rattle.graph.specs.Each.{each};
-ghost use Rattle.graph.specs.Refusal.{first_of};
+ghost use Rattle.graph.specs.Refusal.{Finding, first_of};
 ghost use Rattle.graph.specs.Check.{entry, entries};
 
-use crate::Finding;
+use crate::Refusal;
+
+// The first fault of n rows of n entries, row by row, where `check` looks at one entry: of any `f` that says what the check
+// finds at row i, column j.
+pub fn row_by_row<F: Fn(usize, usize) -> Result<(), Refusal>>(
+    n: usize,
+    check: F,
+) -> Result<(), Refusal>
+    requires { (i j : ℕ) → i < n → j < n → F.pre check i j }
+    ensures { (f : ℕ → ℕ → Finding) → ((i j : ℕ) (r : Finding) → i < n → j < n → F.post check i j r → r ≡ f i j)
+        → result ≡ first_of (each n (λ i. each n (λ j. f i j ∷ []))) }
+{
+    for i in 0..n {
+        for j in 0..n {
+            check(i, j)?;
+        }
+    }
+    Ok(())
+}
 
 // The most an entry may be: 0 on the diagonal, else 1.
 fn most(i: usize, j: usize) -> u8
     ensures { result ≡ pick (eqb i j) 0 1 }
 {
-    if i == j {
-        return 0;
-    }
-    1
+    if i == j { 0 } else { 1 }
 }
 
 // The entry at row i, column j.
-fn entry_of(n: usize, g: &[u8], i: usize, j: usize) -> Finding
+fn entry_of(n: usize, g: &[u8], i: usize, j: usize) -> Result<(), Refusal>
     requires n_bound { n ≤ 128 }
     requires g_len { length g.now ≡ n * n }
     requires i_lt_n { i < n }
@@ -29,63 +44,19 @@ fn entry_of(n: usize, g: &[u8], i: usize, j: usize) -> Finding
     let y = g[j * n + i];
     let top = most(i, j);
     if top < x {
-        return Finding::Fault {
-            number: 3,
-            row: i,
-            column: j,
-        };
+        return Err(Refusal::BadEntry { row: i, column: j });
     }
     if x != y {
-        return Finding::Fault {
-            number: 4,
-            row: i,
-            column: j,
-        };
+        return Err(Refusal::Lopsided { row: i, column: j });
     }
-    Finding::Fine
-}
-
-// The first fault of row i.
-fn row_of(n: usize, g: &[u8], i: usize) -> Finding
-    requires n_bound { n ≤ 128 }
-    requires g_len { length g.now ≡ n * n }
-    requires i_lt_n { i < n }
-    ensures { result ≡ first_of (each n (λ j. entry n g.now i j ∷ [])) }
-{
-    let mut j = 0;
-    while j < n {
-        let found = entry_of(n, g, i, j);
-        if let Finding::Fault {
-            number: _,
-            row: _,
-            column: _,
-        } = found
-        {
-            return found;
-        }
-        j += 1;
-    }
-    Finding::Fine
+    Ok(())
 }
 
 // The first fault of the graph, row by row.
-pub fn entries_of(n: usize, g: &[u8]) -> Finding
+pub fn entries_of(n: usize, g: &[u8]) -> Result<(), Refusal>
     requires n_bound { n ≤ 128 }
     requires g_len { length g.now ≡ n * n }
     ensures { result ≡ entries n g.now }
 {
-    let mut i = 0;
-    while i < n {
-        let found = row_of(n, g, i);
-        if let Finding::Fault {
-            number: _,
-            row: _,
-            column: _,
-        } = found
-        {
-            return found;
-        }
-        i += 1;
-    }
-    Finding::Fine
+    row_by_row(n, |i, j| entry_of(n, g, i, j))
 }

@@ -11,8 +11,7 @@ use Rattle.bits.specs.Choice.{count}
 use Rattle.bits.proofs.Truth.{never, fails}
 use Rattle.graph.specs.Graph.{IsGraph}
 use Rattle.graph.specs.declared.Quad.{Quad}
-use Rattle.graph.specs.declared.First.{First}
-use Rattle.graph.specs.declared.First.TheVariants.{At, Clear}
+use Rattle.std.specs.Prelude.{Option, None, Some}
 use Rattle.graph.specs.Quad.{quads, first, Clean}
 use Rattle.graph.proofs.Quads.{Named, listed_named, first_listed, clear_clean}
 use Rattle.walk.proofs.Laws.{Laws, NotBetter, Ordered, marked}
@@ -127,16 +126,16 @@ module _ (n : ℕ) (e : ℕ → ℕ → Bool) (toll : ℕ → ℕ) where
       Below n e toll (marked (tree n e toll) s (ways_of n (first (quads n (present n e s))))) a → ⊥
   go s a fit d b = at (first (quads n (present n e s))) refl d b
     where
-      listed : (q : Quad) → first (quads n (present n e s)) ≡ At q → Named n (present n e (marked (tree n e toll) s (pairs_of n q))) q
+      listed : (q : Quad) → first (quads n (present n e s)) ≡ Some q → Named n (present n e (marked (tree n e toll) s (pairs_of n q))) q
       listed q p = rw (marked_present (pairs_of n q) s) (listed_named n (present n e s) q (first_listed n (present n e s) q p))
 
       at :
-          (f : First) → first (quads n (present n e s)) ≡ f → is_clear f ≡ false →
+          (f : Option Quad) → first (quads n (present n e s)) ≡ f → is_clear f ≡ false →
           Below n e toll (marked (tree n e toll) s (ways_of n f)) a → ⊥
-      at (At q) p d b =
+      at (Some q) p d b =
           spent_quad (marked (tree n e toll) s (pairs_of n q)) q a (listed q p)
           (marked_holds (pairs_of n q) s) b
-      at Clear p d b = never refl d
+      at None p d b = never refl d
 
   -- one mark more: fewer free pairs, or one less if it was free
   free_fewer : (s : Node) (w x : ℕ) → free n toll (mark s w) x ≡ true → free n toll s x ≡ true
@@ -188,9 +187,9 @@ module _ (n : ℕ) (e : ℕ → ℕ → Bool) (toll : ℕ → ℕ) where
           others = λ x m out. never m out;
         }
       where
-        clear : (f : First) → is_clear f ≡ true → f ≡ Clear
-        clear (At q) h = never h refl
-        clear Clear h = refl
+        clear : (f : Option Quad) → is_clear f ≡ true → f ≡ None
+        clear (Some q) h = never h refl
+        clear None h = refl
 
     pub beats : (s : Node) (a : List ℕ) → Fit n e toll s → Below n e toll s a → better toll a s.path ≡ false
     beats s a fit b =

@@ -13,8 +13,8 @@ use lib.ListN.{length}
 use Rattle.bits.specs.Choice.{count}
 use Rattle.bits.proofs.Truth.{never, which, fails, pick_true, pick_false}
 use Rattle.graph.specs.Graph.{IsGraph}
-use Rattle.graph.specs.declared.First.{First}
-use Rattle.graph.specs.declared.First.TheVariants.{At, Clear}
+use Rattle.std.specs.Prelude.{Option as Found, None, Some}
+use Rattle.graph.specs.declared.Quad.{Quad}
 use Rattle.graph.specs.Quad.{quads, first}
 use Rattle.walk.specs.Walk.{walk, begin, plain, geo}
 use Rattle.walk.specs.Run.{stopped, whole}
@@ -45,10 +45,10 @@ use Rattle.repair.proofs.Prices.{lowest_least}
 use Rattle.repair.proofs.Depths.{changeables_in, changeables_out, lowest_positive}
 
 -- at most six ways
-six : (n : ℕ) (f : First) → length (ways_of n f) ≤ 6
+six : (n : ℕ) (f : Found Quad) → length (ways_of n f) ≤ 6
 unfolding pairs_of
-six n (At q) = omega arith
-six n Clear = omega arith
+six n (Some q) = omega arith
+six n None = omega arith
 
 module _ (n : ℕ) (e : ℕ → ℕ → Bool) (toll : ℕ → ℕ) (graph : IsGraph n e) (positive : Positive n toll) where
   abbrev lawful : Laws (tree n e toll) (price toll) (NotBetter (order toll))

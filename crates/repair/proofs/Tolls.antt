@@ -11,7 +11,9 @@ use lib.Dec.{ltb, leb, eqb}
 use borrow.Author.Tests.{ltb-true, leb-true, ne_eqb, not-true}
 use Rattle.bits.specs.Choice.{pick}
 use Rattle.bits.proofs.Truth.{never, and_left, and_right, or_out, pick_false}
-use Rattle.graph.specs.declared.Finding.TheVariants.{Fine, Fault}
+use Rattle.std.specs.Prelude.{Ok, Err}
+use Rattle.graph.specs.declared.Refusal.TheVariants.{BadPrice}
+use Rattle.graph.specs.Refusal.{Finding}
 use Rattle.graph.specs.Price.{fixed, priced, price_entry, price_entries}
 use Rattle.graph.proofs.Leading.{fault_not_fine}
 use Rattle.graph.proofs.Grid.{grid_fine}
@@ -20,7 +22,7 @@ use Rattle.repair.specs.Repair.{toll_of}
 use Rattle.repair.proofs.Instance.{Positive}
 
 -- an entry that passes is by the rule
-entry_priced : (n : ℕ) (ps : List ℕ) (i j : ℕ) → price_entry n ps i j ≡ Fine → priced i j (get_or ps (i * n + j) 0) ≡ true
+entry_priced : (n : ℕ) (ps : List ℕ) (i j : ℕ) → price_entry n ps i j ≡ Ok tt → priced i j (get_or ps (i * n + j) 0) ≡ true
 unfolding price_entry
 entry_priced n ps i j h = go (priced i j (get_or ps (i * n + j) 0)) refl h
   where
@@ -28,7 +30,7 @@ entry_priced n ps i j h = go (priced i j (get_or ps (i * n + j) 0)) refl h
     mirror = eqb (get_or ps (i * n + j) 0) (get_or ps (j * n + i) 0)
 
     go :
-        (b : Bool) → priced i j (get_or ps (i * n + j) 0) ≡ b → pick (b && mirror) Fine (Fault 6 i j) ≡ Fine →
+        (b : Bool) → priced i j (get_or ps (i * n + j) 0) ≡ b → ◌≡◌ {A = Finding} (pick (b && mirror) (Ok tt) (Err (BadPrice i j))) (Ok tt) →
         priced i j (get_or ps (i * n + j) 0) ≡ true
     go true p k = p
     go false p k = absurd (fault_not_fine k)
@@ -50,7 +52,7 @@ some_vertex n x l = go (eq-zero-or-pos n)
     go (inl e) = absurd (let none : n * n ≡ 0 = ap (λ t. t * n) e ∙ zero-mul n in omega arith)
     go (inr p) = p
 
-module _ (n : ℕ) (ps : List ℕ) (fine : price_entries n ps ≡ Fine) where
+module _ (n : ℕ) (ps : List ℕ) (fine : price_entries n ps ≡ Ok tt) where
   pub tolls_within : (x : ℕ) → changeable n (toll_of ps) x ≡ true → (1 ≤ toll_of ps x) × (toll_of ps x ≤ 10000)
   unfolding changeable is_pair price_entries
   tolls_within x c =

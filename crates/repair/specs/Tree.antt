@@ -2,8 +2,8 @@
 use Rattle.std.specs.Prelude.{ℕ, suc, ◌+◌, ◌*◌, Bool, true, false, not, ◌&&◌, List, [], ◌∷◌, ltb}
 use Rattle.std.proofs.Math.Option.{Option}
 use Rattle.bits.specs.Choice.{pick}
-use Rattle.graph.specs.declared.First.{First}
-use Rattle.graph.specs.declared.First.TheVariants.{At, Clear}
+use Rattle.std.specs.Prelude.{Option as Found, None, Some}
+use Rattle.graph.specs.declared.Quad.{Quad}
 use Rattle.graph.specs.Quad.{quads, first}
 use Rattle.walk.specs.Problem.{Problem, Tally}
 use Rattle.walk.specs.Walk.{walk, begin, plain}
@@ -28,14 +28,14 @@ pub record Node : Type 0 where
 abbrev pub root : Node
 root = record { path = []; marks = [] }
 
-abbrev pub is_clear : First → Bool
-is_clear (At q) = false
-is_clear Clear = true
+abbrev pub is_clear : Found Quad → Bool
+is_clear (Some q) = false
+is_clear None = true
 
 -- "take the first in listing order .. ab, ac, ad, bc, bd, cd"
-abbrev pub ways_of : ℕ → First → List ℕ
-ways_of n (At q) = pairs_of n q
-ways_of n Clear = []
+abbrev pub ways_of : ℕ → Found Quad → List ℕ
+ways_of n (Some q) = pairs_of n q
+ways_of n None = []
 
 -- "The one returned has the lowest price; among equals .."
 abbrev pub order : (ℕ → ℕ) → Order (List ℕ)

@@ -12,19 +12,19 @@ words_same c = c.flat_of-words.ensures.edges ∙ c.rows_of-rows.ensures.edges
 words_graph : (c : After-flat_of-words) → IsGraph c.args.n (word_edge c.flat_of-words.result)
 words_graph c = subst (IsGraph _) (sym (words_same c)) c.requires.3
 
-pub first_quad-found-requires : goal.first_quad-found-requires
-first_quad-found-requires c =
-    (c.flat_of-words.ensures.shape.many, search rules, words_graph (goal.at.first_quad-found-requires c).After-flat_of-words)
+pub first_quad-requires : goal.first_quad-requires
+first_quad-requires c =
+    (c.flat_of-words.ensures.shape.many, search rules, words_graph (goal.at.first_quad-requires c).After-flat_of-words)
 
-pub returns-in-At : goal.returns-in-At
-returns-in-At c =
-    spoiled _ _ _ (words_same (goal.at.returns-in-At c).After-flat_of-words) c.first_quad-found.ensures c.in-At.is
+pub returns-in-Some : goal.returns-in-Some
+returns-in-Some c =
+    spoiled _ _ _ (words_same (goal.at.returns-in-Some c).After-flat_of-words) c.in-Some.ensures
 
 pub planted-requires : goal.planted-requires
 planted-requires c =
     (c.flat_of-words.ensures.shape.many, search rules, search rules, words_graph (goal.at.planted-requires c).After-flat_of-words)
 
-pub returns : goal.returns
-returns c =
-    cleared _ _ _ (words_same (goal.at.returns c).After-flat_of-words) c.requires.3 c.requires.0 c.first_quad-found.ensures c.in_default.is
+pub returns-in-None : goal.returns-in-None
+returns-in-None c =
+    cleared _ _ _ (words_same (goal.at.returns-in-None c).After-flat_of-words) c.requires.3 c.requires.0 c.in-None.ensures
     c.planted.ensures.0 c.planted.ensures.1
