@@ -2,11 +2,12 @@
 // dive goes 8,000 nodes down, so with these step limits both engines stop at the bottom of it, on the ordinary stack.
 #![tactic(auto)]
 
+use graph::Refusal;
 use search::Answer;
 use std::{array, io};
 
 // An engine as it is called on the matrices: the step limit, the list.
-fn dives<F: Fn(u32, &mut [u16]) -> Answer>(rt: &impl Print, name: &str, engine: F) -> io::Result<()>
+fn dives<F: Fn(u32, &mut [u16]) -> Result<Answer, Refusal>>(rt: &impl Print, name: &str, engine: F) -> io::Result<()>
     requires { F.IsAlwaysCallable engine }
 {
     for most in [8001, 8400] {
@@ -17,13 +18,13 @@ fn dives<F: Fn(u32, &mut [u16]) -> Answer>(rt: &impl Print, name: &str, engine: 
     Ok(())
 }
 
-fn show(rt: &impl Print, name: &str, answer: Answer) -> io::Result<()> {
+fn show(rt: &impl Print, name: &str, answer: Result<Answer, Refusal>) -> io::Result<()> {
     print!(rt; "{name} answer ")?;
     match answer {
-        Answer::Refused { number, .. } => println!(rt; "{number}"),
-        Answer::Stopped { steps } => println!(rt; "9 steps {steps}"),
-        Answer::Nothing { steps } => println!(rt; "8 steps {steps}"),
-        Answer::Repaired { price, steps, .. } => println!(rt; "0 cost {price} steps {steps}"),
+        Ok(Answer::Stopped { steps }) => println!(rt; "9 steps {steps}"),
+        Ok(Answer::Nothing { steps }) => println!(rt; "8 steps {steps}"),
+        Ok(Answer::Repaired { price, steps, .. }) => println!(rt; "0 cost {price} steps {steps}"),
+        Err(refusal) => println!(rt; "{}", refusal.number()),
     }
 }
 

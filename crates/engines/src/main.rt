@@ -2,6 +2,7 @@
 // first, a line each: the answer, and how many entries of the lent list, all 999 before the call, are no longer 999.
 #![tactic(auto)]
 
+use graph::Refusal;
 use search::Answer;
 use std::{array, io};
 
@@ -17,7 +18,7 @@ struct Question<'a> {
 }
 
 impl<'a> Question<'a> {
-    fn ask<F: Fn(usize, &[u8], &[u16], u32, u32, &mut [u16]) -> Answer>(
+    fn ask<F: Fn(usize, &[u8], &[u16], u32, u32, &mut [u16]) -> Result<Answer, Refusal>>(
         &self,
         rt: &impl Print,
         name: &str,
@@ -45,12 +46,8 @@ impl<'a> Question<'a> {
 
     fn bound(&self, rt: &impl Print) -> io::Result<()> {
         match bound::bound(self.n, self.graph, self.prices) {
-            bound::Answer::Refused {
-                number,
-                row,
-                column,
-            } => println!(rt; "  bound answer {number} place {row} {column}"),
-            bound::Answer::Bounded { bound } => println!(rt; "  bound {bound}"),
+            Ok(bound) => println!(rt; "  bound {bound}"),
+            Err(refusal) => println!(rt; "  bound {refusal}"),
         }
     }
 
@@ -63,20 +60,14 @@ impl<'a> Question<'a> {
     }
 }
 
-fn show(rt: &impl Print, answer: Answer) -> io::Result<()> {
+fn show(rt: &impl Print, answer: Result<Answer, Refusal>) -> io::Result<()> {
     match answer {
-        Answer::Refused {
-            number,
-            row,
-            column,
-        } => print!(rt; "answer {number} place {row} {column}"),
-        Answer::Stopped { steps } => print!(rt; "answer 9 steps {steps}"),
-        Answer::Nothing { steps } => print!(rt; "answer 8 steps {steps}"),
-        Answer::Repaired {
-            price,
-            pairs,
-            steps,
-        } => print!(rt; "answer 0 cost {price} edits {pairs} steps {steps}"),
+        Ok(Answer::Stopped { steps }) => print!(rt; "answer 9 steps {steps}"),
+        Ok(Answer::Nothing { steps }) => print!(rt; "answer 8 steps {steps}"),
+        Ok(Answer::Repaired { price, pairs, steps }) => {
+            print!(rt; "answer 0 cost {price} edits {pairs} steps {steps}")
+        }
+        Err(refusal) => print!(rt; "{refusal}"),
     }
 }
 

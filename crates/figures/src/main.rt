@@ -3,7 +3,7 @@
 #![tactic(auto)]
 
 use forest::Answer;
-use graph::Quad;
+use graph::{Quad, Refusal};
 use std::{array, fmt, io};
 
 // A parent, `-` for none.
@@ -30,15 +30,11 @@ fn parents(rt: &impl Print, list: &[u16]) -> io::Result<()> {
     Ok(())
 }
 
-fn show(rt: &impl Print, answer: Answer, n: usize, out: &[u16]) -> io::Result<()> {
+fn show(rt: &impl Print, answer: Result<Answer, Refusal>, n: usize, out: &[u16]) -> io::Result<()> {
     match answer {
-        Answer::Refused {
-            number,
-            row,
-            column,
-        } => print!(rt; "answer {number} place {row} {column}")?,
-        Answer::Spoiled(Quad { a, b, c, d }) => print!(rt; "quad {a} {b} {c} {d}")?,
-        Answer::Forest { groups } => {
+        Err(refusal) => print!(rt; "{refusal}")?,
+        Ok(Answer::Spoiled(Quad { a, b, c, d })) => print!(rt; "quad {a} {b} {c} {d}")?,
+        Ok(Answer::Forest { groups }) => {
             print!(rt; "groups {groups} parents")?;
             parents(rt, &out[..n.min(out.len())])?;
         }

@@ -4,7 +4,6 @@
 
 ghost use Rattle.std.specs.Prelude.{◌≤◌, length, IfOk};
 
-use lines::Answer;
 use std::io;
 use std::io::Read;
 
@@ -27,7 +26,7 @@ fn main(rt: HostRuntime) -> io::Result<()> {
     let mut sheet = [0u8; 49033];
     let got = read_full(&mut rt.stdin(), &mut sheet)?;
     let mut text = [0u8; 131072];
-    let Answer::Written { size } = lines::report(&sheet[..got], &mut text) else {
+    let Ok(size) = lines::report(&sheet[..got], &mut text) else {
         return Ok(());
     };
     rt.write_all(&text[..size])

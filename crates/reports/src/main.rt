@@ -4,14 +4,12 @@
 
 ghost use Rattle.std.specs.Prelude.{◌≤◌};
 
-use lines::Answer;
-use scores::Writing;
 use std::io;
 
 fn show(rt: &impl Print, name: &str, sheet: &[u8]) -> io::Result<()> {
     println!(rt; "== {name}")?;
     let mut text = [0; 131072];
-    let Answer::Written { size } = lines::report(sheet, &mut text) else {
+    let Ok(size) = lines::report(sheet, &mut text) else {
         return Ok(());
     };
     rt.write_all(&text[..size])
@@ -20,7 +18,7 @@ fn show(rt: &impl Print, name: &str, sheet: &[u8]) -> io::Result<()> {
 // The sheet of n vertices with these scores and the threshold t, without notes.
 fn written(rt: &impl Print, name: &str, n: usize, t: i16, list: &[i16]) -> io::Result<()> {
     let mut sheet = [0; 49032];
-    let Writing::Written { size } = scores::write(b"", list, n, t, &mut sheet) else {
+    let Ok(size) = scores::write(b"", list, n, t, &mut sheet) else {
         return Ok(());
     };
     show(rt, name, &sheet[..size.min(49032)])

@@ -1,46 +1,34 @@
 // Tries scores and sheets as a new user would: one line for each input, with what came of it.
 #![tactic(auto)]
 
-use graph::Finding;
-use scores::{Reading, Writing};
+use graph::Refusal;
+use scores::Trailer;
 use std::io;
 
-fn found(rt: &impl Print, name: &str, finding: Finding) -> io::Result<()> {
-    match finding {
-        Finding::Fine => println!(rt; "{name} done"),
-        Finding::Fault {
-            number,
-            row,
-            column,
-        } => println!(rt; "{name} answer {number} place {row} {column}"),
+fn drawing(rt: &impl Print, name: &str, drawn: Result<(), Refusal>) -> io::Result<()> {
+    match drawn {
+        Ok(()) => println!(rt; "{name} done"),
+        Err(refusal) => println!(rt; "{name} {refusal}"),
     }
 }
 
-fn reading(rt: &impl Print, name: &str, read: Reading) -> io::Result<()> {
+fn reading(rt: &impl Print, name: &str, read: Result<Trailer, Refusal>) -> io::Result<()> {
     match read {
-        Reading::Sheet { p, n, .. } => println!(rt; "{name} notes {p} vertices {n}"),
-        Reading::Refused {
-            number,
-            row,
-            column,
-        } => println!(rt; "{name} answer {number} place {row} {column}"),
+        Ok(Trailer { p, n, .. }) => println!(rt; "{name} notes {p} vertices {n}"),
+        Err(refusal) => println!(rt; "{name} {refusal}"),
     }
 }
 
-fn writing(rt: &impl Print, name: &str, written: Writing) -> io::Result<()> {
+fn writing(rt: &impl Print, name: &str, written: Result<usize, Refusal>) -> io::Result<()> {
     match written {
-        Writing::Written { size } => println!(rt; "{name} length {size}"),
-        Writing::Refused {
-            number,
-            row,
-            column,
-        } => println!(rt; "{name} answer {number} place {row} {column}"),
+        Ok(size) => println!(rt; "{name} length {size}"),
+        Err(refusal) => println!(rt; "{name} {refusal}"),
     }
 }
 
 // Each call with a little room of its own.
 fn draw(rt: &impl Print, name: &str, n: usize, t: i16, list: &[i16]) -> io::Result<()> {
-    found(
+    drawing(
         rt,
         name,
         scores::to_graph(n, t, list, &mut [0; 4], &mut [0; 4]),
@@ -83,15 +71,15 @@ fn graphs(rt: &impl Print) -> io::Result<()> {
 // The room for both matrices.
 fn short(rt: &impl Print) -> io::Result<()> {
     let graph = scores::to_graph(2, 100, &[100], &mut [0; 3], &mut [0; 4]);
-    found(rt, "graph one short", graph)?;
+    drawing(rt, "graph one short", graph)?;
     let prices = scores::to_graph(2, 100, &[100], &mut [0; 4], &mut [0; 3]);
-    found(rt, "prices one short", prices)
+    drawing(rt, "prices one short", prices)
 }
 
 // The greatest number of vertices, and one more.
 fn most(rt: &impl Print) -> io::Result<()> {
     for (name, n) in [("graph of 128", 128), ("graph of 129", 129)] {
-        found(rt, name, scores::to_graph(n, 0, &[0; 8128], &mut [0; 16384], &mut [0; 16384]))?;
+        drawing(rt, name, scores::to_graph(n, 0, &[0; 8128], &mut [0; 16384], &mut [0; 16384]))?;
     }
     Ok(())
 }
