@@ -26,5 +26,6 @@ module _ (n : ℕ) (g out : List ℕ) where
       let lists : a ≡ b = x.parents ∙ sym y.parents in
       (let groups : k ≡ m = x.trees ∙ rw lists (sym y.trees) in cc, lists)
 
-  pub forest_determined : {r s : Result Answer Refusal} {a b : List ℕ} → Promise n g out r a → Promise n g out s b → (r ≡ s) × (a ≡ b)
+  pub forest_determined : {r s : Result Answer Refusal} {a b : List ℕ} → Promise n g out r a → Promise n g out s b
+      → (r ≡ s) × (a ≡ b)
   forest_determined {r} {s} {a} {b} x y = same r s a b (x.refused ∙ sym y.refused) x.meant y.meant

@@ -10,6 +10,7 @@ ghost use Rattle.forest.specs.Forest.{roots};
 
 mod recogniser;
 
+use crate::recogniser::Graph;
 use graph::{Quad, Refusal};
 
 // Stands in a lent list for the parent of a vertex that has none.
@@ -31,14 +32,14 @@ fn roots_of(parents: &[u16]) -> usize
 }
 
 // The forest of a clean graph, and the number of its groups.
-fn planted(words: &[u64], n: usize, out: &mut [u16]) -> usize
-    requires { (length words.now ≡ 256) × (n ≤ 128) × (n ≤ length out.old) × IsGraph n (word_edge words.now) }
-    ensures { (result ≡ roots n (parent n (word_edge words.now)))
-        × (out.new ≡ each n (λ v. parent n (word_edge words.now) v ∷ []) ++ drop n out.old) }
+fn planted(graph: &Graph, out: &mut [u16]) -> usize
+    requires { graph.now.n ≤ length out.old }
+    ensures { (result ≡ roots graph.now.n (parent graph.now.n (word_edge graph.now.words)))
+        × (out.new ≡ each graph.now.n (λ v. parent graph.now.n (word_edge graph.now.words) v ∷ []) ++ drop graph.now.n out.old) }
 {
-    let parents = recogniser::parents_of(words, n);
-    out[..n].copy_from_slice(&parents[..n]);
-    roots_of(&parents[..n])
+    let parents = recogniser::parents_of(graph);
+    out[..graph.n].copy_from_slice(&parents[..graph.n]);
+    roots_of(&parents[..graph.n])
 }
 
 // The answer for a graph that passed its checks, with room for its forest.
@@ -51,7 +52,7 @@ fn judged(n: usize, g: &[u8], out: &mut [u16]) -> Answer
     match graph::seek::first_quad(&words, n) {
         Some(quad) => Answer::Spoiled(quad),
         None => Answer::Forest {
-            groups: planted(&words, n, out),
+            groups: planted(&Graph { words, n }, out),
         },
     }
 }

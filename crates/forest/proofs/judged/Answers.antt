@@ -20,10 +20,6 @@ pub returns-in-Some : goal.returns-in-Some
 returns-in-Some c =
     spoiled _ _ _ (words_same (goal.at.returns-in-Some c).After-flat_of-words) c.in-Some.ensures
 
-pub planted-requires : goal.planted-requires
-planted-requires c =
-    (c.flat_of-words.ensures.shape.many, search rules, search rules, words_graph (goal.at.planted-requires c).After-flat_of-words)
-
 pub returns-in-None : goal.returns-in-None
 returns-in-None c =
     cleared _ _ _ (words_same (goal.at.returns-in-None c).After-flat_of-words) c.requires.3 c.requires.0 c.in-None.ensures
