@@ -13,7 +13,7 @@ use borrow.Author.Tests.{lt-ltb, le-ltb, ltb-true, eq-eqb, ne_eqb}
 use Rattle.bits.specs.Choice.{pick}
 use Rattle.bits.proofs.Truth.{and_in, and_left, and_right, and_off_right, not_in, not_off, equal}
 use Rattle.graph.specs.declared.Quad.{Quad}
-use Rattle.graph.specs.declared.Finding.TheVariants.{Fine}
+use Rattle.std.specs.Prelude.{Ok}
 use Rattle.graph.specs.Each.{only}
 use Rattle.graph.specs.Price.{fixed, price_entries}
 use Rattle.graph.specs.Quad.{quads}
@@ -122,7 +122,7 @@ module _ (n : ℕ) (free free' : ℕ → Bool) (toll toll' : ℕ → ℕ) where
       record { frees = λ x k. f x (six_pairs e q N x k); tolls = λ x k. t x (six_pairs e q N x k) })
 
 -- the table of costs made from prices
-module _ (n : ℕ) (few : n ≤ 128) (prices cost : List ℕ) (C : Costs n prices cost) (ok : price_entries n prices ≡ Fine) where
+module _ (n : ℕ) (few : n ≤ 128) (prices cost : List ℕ) (C : Costs n prices cost) (ok : price_entries n prices ≡ Ok tt) where
   module _ (x : ℕ) (h : is_pair n x ≡ true) where
     low : x / n < x % n
     unfolding is_pair

@@ -1,65 +1,21 @@
--- Check 6, entry by entry: the rule in each case of the code. The table of costs grows from its front, 65,535 behind.
--- Assumes nothing.
-use mathlib.Core.Path.{◌≡◌, refl, sym, ◌∙◌, ap, subst}
-use mathlib.Core.Logic.{◌⊎◌, inl, inr, ◌≢◌}
-use mathlib.Core.Bool.{true, false, ◌&&◌, ◌||◌}
+-- The table of costs grows from its front, 65,535 behind. Assumes nothing.
+use mathlib.Core.Path.{◌≡◌, refl, sym, ◌∙◌, ap}
+use mathlib.Core.Logic.{◌⊎◌, inl, inr}
+use mathlib.Core.Bool.{false, ◌&&◌}
 use mathlib.Core.List.{List}
-use Prim.Native.Nat.{ℕ, ◌+◌, ◌*◌, ◌/◌, ◌%◌, ◌≤◌, ◌<◌}
+use Prim.Native.Nat.{ℕ, ◌+◌, ◌-◌, ◌*◌, ◌/◌, ◌%◌, ◌≤◌, ◌<◌}
 use native.Mathlib.Omega.{arith}
-use lib.ListN.{get_or, set, replicate, length-set, get_or-replicate}
-use lib.Seq.{get_or-set_same, get_or-set_other}
-use lib.Dec.{ltb, leb, eqb}
-use borrow.Author.Tests.{eq-eqb, ne_eqb, le-leb, lt-leb, lt-ltb, le-ltb}
+use borrow.Rule.Slice.PartMut.{put_mid}
+use lib.ListN.{length, get_or, take, drop, replicate, get_or-replicate}
+use Rattle.std.proofs.Common.{rules}
+use Rattle.std.proofs.lemmas.List.{places}
+use lib.Dec.{ltb}
+use borrow.Author.Tests.{lt-ltb, le-ltb}
 use Rattle.bits.specs.Choice.{pick}
-use Rattle.bits.proofs.Truth.{and_in, and_off_left, and_off_right, or_right, or_off, below, equal, pick_true, pick_false}
-use Rattle.graph.specs.declared.Finding.TheVariants.{Fine, Fault}
-use Rattle.graph.specs.Price.{fixed, priced, price_entry}
-use Rattle.graph.proofs.MaskRow.{or_none}
+use Rattle.bits.proofs.Truth.{and_in, and_off_left, and_off_right, below, pick_true, pick_false}
+use Rattle.graph.specs.Price.{fixed}
+use Rattle.graph.proofs.CheckLaws.{inside}
 use Rattle.bound.specs.Costs.{cost_at, Costs, Filled}
-
-module _ (i j p : ℕ) where
-  pub on_diagonal : i ≡ j → eqb p 0 ≡ priced i j p
-  unfolding priced
-  on_diagonal e = sym (pick_true (eqb p 0) ((leb 1 p && leb p 10000) || eqb p fixed) (eq-eqb i j e))
-
-  off_diagonal : i ≢ j → priced i j p ≡ ((leb 1 p && leb p 10000) || eqb p fixed)
-  unfolding priced
-  off_diagonal d = pick_false (eqb p 0) ((leb 1 p && leb p 10000) || eqb p fixed) (ne_eqb i j d)
-
-  pub as_fixed : i ≢ j → p ≡ fixed → true ≡ priced i j p
-  as_fixed d e = sym (off_diagonal d ∙ or_right (leb 1 p && leb p 10000) (eq-eqb p fixed e))
-
-  pub as_nothing : i ≢ j → p ≡ 0 → false ≡ priced i j p
-  as_nothing d e =
-      sym
-      (off_diagonal d ∙
-      or_off (and_off_left (leb p 10000) (lt-leb 1 p (omega arith))) (ne_eqb p fixed (λ z. omega arith)))
-
-  pub as_price : i ≢ j → p ≢ fixed → p ≢ 0 → leb p 10000 ≡ priced i j p
-  as_price d f z =
-      sym
-      (off_diagonal d ∙ ap (λ t. (leb 1 p && leb p 10000) || t) (ne_eqb p fixed f) ∙ or_none (leb 1 p && leb p 10000) ∙
-      ap (λ t. t && leb p 10000) (le-leb 1 p (omega arith)))
-
-module _ (n : ℕ) (ps : List ℕ) (i j : ℕ) where
-  pub unlike : get_or ps (i * n + j) 0 ≢ get_or ps (j * n + i) 0 → Fault 6 i j ≡ price_entry n ps i j
-  unfolding price_entry
-  unlike d =
-      sym
-      (pick_false Fine (Fault 6 i j)
-      (and_off_right (priced i j (get_or ps (i * n + j) 0)) (ne_eqb (get_or ps (i * n + j) 0) (get_or ps (j * n + i) 0) d)))
-
-  pub fine : get_or ps (i * n + j) 0 ≡ get_or ps (j * n + i) 0 → priced i j (get_or ps (i * n + j) 0) ≡ true → Fine ≡ price_entry n ps i j
-  unfolding price_entry
-  fine e h =
-      sym (pick_true Fine (Fault 6 i j) (and_in h (eq-eqb (get_or ps (i * n + j) 0) (get_or ps (j * n + i) 0) e)))
-
-  pub outside : priced i j (get_or ps (i * n + j) 0) ≡ false → Fault 6 i j ≡ price_entry n ps i j
-  unfolding price_entry
-  outside h =
-      sym
-      (pick_false Fine (Fault 6 i j)
-      (and_off_left (eqb (get_or ps (i * n + j) 0) (get_or ps (j * n + i) 0)) h))
 
 module _ (n : ℕ) (ps : List ℕ) where
   pub filled_none : Filled n ps 0 (replicate 16384 65535)
@@ -89,27 +45,30 @@ module _ (n : ℕ) (ps : List ℕ) where
       at p (inr a) (inr b) =
           pick_false (cost_at n ps p) fixed (le-ltb p m a) ∙ sym (pick_false (cost_at n ps p) fixed (le-ltb p k b))
 
-  -- one more place
-  pub filled_next :
-      {m v : ℕ} (cost : List ℕ) → m < 16384 → v ≡ cost_at n ps m → Filled n ps m cost → Filled n ps (m + 1) (set cost m v)
-  filled_next {m} {v} cost l e F =
-      record {
-        many = length-set cost m v ∙ F.many;
-        each = λ p h. at p h (equal p m) (below p m);
-      }
+  -- more places, copied in behind
+  filled_copy :
+      (a k : ℕ) (cost ys : List ℕ) → a + k ≤ 16384 → length ys ≡ k → ((j : ℕ) → j < k → get_or ys j 0 ≡ cost_at n ps (a + j)) →
+      Filled n ps a cost → Filled n ps (a + k) (put_mid a k cost ys)
+  filled_copy a k cost ys fits many same F =
+      let all : length cost ≡ 16384 = F.many in
+      record { many = search (rules, places); each = λ p h. at p h (below p a) (below p (a + k)) }
     where
       at :
-          (p : ℕ) → p < 16384 → (p ≡ m) ⊎ (p ≢ m) → (p < m) ⊎ (m ≤ p) →
-          get_or (set cost m v) p 0 ≡ pick (ltb p (m + 1)) (cost_at n ps p) fixed
-      at p h (inl q) b =
-          ap (λ k. get_or (set cost m v) k 0) q ∙ get_or-set_same cost m v 0 (omega (arith, F.many)) ∙ e ∙
-          ap (cost_at n ps) (sym q) ∙ sym (pick_true (cost_at n ps p) fixed (lt-ltb p (m + 1) (omega arith)))
-      at p h (inr d) (inl b) =
-          get_or-set_other cost m p v 0 d ∙ F.each p h ∙ pick_true (cost_at n ps p) fixed (lt-ltb p m b) ∙
-          sym (pick_true (cost_at n ps p) fixed (lt-ltb p (m + 1) (omega arith)))
-      at p h (inr d) (inr b) =
-          get_or-set_other cost m p v 0 d ∙ F.each p h ∙ pick_false (cost_at n ps p) fixed (le-ltb p m b) ∙
-          sym (pick_false (cost_at n ps p) fixed (le-ltb p (m + 1) (omega arith)))
+          (p : ℕ) → p < 16384 → (p < a) ⊎ (a ≤ p) → (p < a + k) ⊎ (a + k ≤ p) →
+          get_or (put_mid a k cost ys) p 0 ≡ pick (ltb p (a + k)) (cost_at n ps p) fixed
+      at p h (inl x) y =
+          let front : get_or (put_mid a k cost ys) p 0 ≡ get_or cost p 0 = search (rules, places, F.many) in
+          front ∙ F.each p h ∙ pick_true (cost_at n ps p) fixed (lt-ltb p a x) ∙
+          sym (pick_true (cost_at n ps p) fixed (lt-ltb p (a + k) (omega arith)))
+      at p h (inr x) (inl y) =
+          let mid : get_or (put_mid a k cost ys) p 0 ≡ get_or ys (p - a) 0 = search (rules, places, F.many) in
+          let back : a + (p - a) ≡ p = omega arith in
+          mid ∙ same (p - a) (omega arith) ∙ ap (cost_at n ps) back ∙
+          sym (pick_true (cost_at n ps p) fixed (lt-ltb p (a + k) y))
+      at p h (inr x) (inr y) =
+          let rest : get_or (put_mid a k cost ys) p 0 ≡ get_or cost p 0 = search (rules, places, F.many) in
+          rest ∙ F.each p h ∙ pick_false (cost_at n ps p) fixed (le-ltb p a x) ∙
+          sym (pick_false (cost_at n ps p) fixed (le-ltb p (a + k) y))
 
   -- no pair: 65,535
   pub cost_none : (p : ℕ) → (p / 128 < p % 128 → p % 128 < n → ⊥) → cost_at n ps p ≡ fixed
@@ -141,23 +100,27 @@ module _ (n : ℕ) (ps : List ℕ) where
       at p (inr a) =
           pick_false (cost_at n ps p) fixed (le-ltb p (m * 128) a) ∙ sym (cost_none p (λ x y. omega arith))
 
-  -- a row of the table: up to its first pair, one pair more, and to its end
-  pub row_begin : (i : ℕ) {cost : List ℕ} → n ≤ 128 → i < n → Filled n ps (i * 128) cost → Filled n ps (i * 128 + (i + 1)) cost
-  row_begin i few l = filled_skip (omega arith) (λ p a b. cost_none p (λ x y. omega arith))
+  -- a row of the table: up to its first pair, its pairs, and to its end
+  pub row_copied :
+      (i : ℕ) (cost ys : List ℕ) → n ≤ 128 → i < n → length ps ≡ n * n →
+      ys ≡ take (i * n + n - (i * n + i + 1)) (drop (i * n + i + 1) ps) → Filled n ps (i * 128) cost →
+      Filled n ps ((i + 1) * 128) (put_mid (i * 128 + i + 1) (i * 128 + n - (i * 128 + i + 1)) cost ys)
+  row_copied i cost ys few l many e F =
+      filled_skip (omega arith) (λ p x y. cost_none p (λ z w. omega arith))
+      (filled_copy (i * 128 + i + 1) (i * 128 + n - (i * 128 + i + 1)) cost ys (omega arith) as_many same
+      (filled_skip (omega arith) (λ p x y. cost_none p (λ z w. omega arith)) F))
+    where
+      as_many : length ys ≡ i * 128 + n - (i * 128 + i + 1)
+      as_many =
+          let last : n - 1 < n = omega arith in
+          let room = inside few l last in
+          let part : length (take (i * n + n - (i * n + i + 1)) (drop (i * n + i + 1) ps)) ≡ i * n + n - (i * n + i + 1) = search (rules, places, many, room) in
+          ap length e ∙ part ∙ omega arith
 
-  pub row_next :
-      (i j : ℕ) {cost : List ℕ} → n ≤ 128 → i < j → j < n → Filled n ps (i * 128 + j) cost →
-      Filled n ps (i * 128 + (j + 1)) (set cost (i * 128 + j) (get_or ps (i * n + j) 0))
-  row_next i j {cost} few a b F =
-      let e : i * 128 + j + 1 ≡ i * 128 + (j + 1) = omega arith in
-      subst (λ m. Filled n ps m (set cost (i * 128 + j) (get_or ps (i * n + j) 0))) e
-      (filled_next cost (omega arith) (cost_pair i j a b few) F)
-
-  pub row_end :
-      (i j : ℕ) {cost : List ℕ} → n ≤ 128 → j ≤ n → n ≤ j → Filled n ps (i * 128 + j) cost → Filled n ps (i * 128 + 128) cost
-  row_end i j few a b = filled_skip (omega arith) (λ p x y. cost_none p (λ z w. omega arith))
-
-  pub rows_next : (i : ℕ) {cost : List ℕ} → Filled n ps (i * 128 + 128) cost → Filled n ps ((i + 1) * 128) cost
-  rows_next i {cost} F =
-      let e : i * 128 + 128 ≡ (i + 1) * 128 = omega arith in
-      subst (λ m. Filled n ps m cost) e F
+      same : (j : ℕ) → j < i * 128 + n - (i * 128 + i + 1) → get_or ys j 0 ≡ cost_at n ps (i * 128 + i + 1 + j)
+      same j h =
+          let there : get_or (take (i * n + n - (i * n + i + 1)) (drop (i * n + i + 1) ps)) j 0 ≡ get_or ps (i * n + (i + 1 + j)) 0 =
+          search (rules, places)
+          in
+          let here : i * 128 + (i + 1 + j) ≡ i * 128 + i + 1 + j = omega arith in
+          ap (λ v. get_or v j 0) e ∙ there ∙ cost_pair i (i + 1 + j) (omega arith) (omega arith) few ∙ ap (cost_at n ps) here

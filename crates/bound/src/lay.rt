@@ -10,7 +10,7 @@ ghost use Rattle.bound.specs.Leaves.{Marked, Laid, Ready, Left};
 fn wide(x: u16) -> u32
     ensures { (result ≡ x) × (result < 65536) }
 {
-    x as u32
+    u32::from(x)
 }
 
 // What the pair of x and y costs.
@@ -61,16 +61,6 @@ fn lay(cost: &[u16], taken: &mut [u64], x: usize, y: usize, low: u32) -> u32
     low
 }
 
-// The pairs of x and z and of x and y.
-fn lay_two(cost: &[u16], taken: &mut [u64], x: usize, y: usize, z: usize, low: u32) -> u32
-    requires { (length cost.now ≡ 16384) × (length taken.old ≡ 256) × (x < 128) × (y < 128) × (z < 128) }
-    ensures { Laid (laid cost.now x y (laid cost.now x z (word_edge taken.old)))
-        (lower cost.now x y (lower cost.now x z low)) taken.new result }
-{
-    let m = lay(cost, taken, x, z, low);
-    lay(cost, taken, x, y, m)
-}
-
 // All six pairs, and the lowest cost.
 fn lay_all(cost: &[u16], taken: &mut [u64], a: usize, b: usize, c: usize, d: usize) -> u32
     requires cost_len { (length cost.now ≡ 16384) × (length taken.old ≡ 256) }
@@ -78,42 +68,25 @@ fn lay_all(cost: &[u16], taken: &mut [u64], a: usize, b: usize, c: usize, d: usi
     ensures { Laid (laid_all cost.now a b c d (word_edge taken.old))
         (fee cost.now a b c d) taken.new result }
 {
-    let m = lay(cost, taken, c, d, 4294967295);
-    let k = lay_two(cost, taken, b, c, d, m);
-    let l = lay_two(cost, taken, a, c, d, k);
-    lay(cost, taken, a, b, l)
-}
-
-// Is the pair of b and c, of b and d or of c and d used?
-fn touched_last(taken: &[u64], b: usize, c: usize, d: usize) -> bool
-    requires { (length taken.now ≡ 256) × (b < 128) × (c < 128) × (d < 128) }
-    ensures { result ≡ (word_edge taken.now b c
-        || (word_edge taken.now b d || word_edge taken.now c d)) }
-{
-    if graph::rows::adjacent(taken, b, c) {
-        return true;
+    let mut low = 4294967295;
+    for (x, y) in [(c, d), (b, d), (b, c), (a, d), (a, c), (a, b)] {
+        low = lay(cost, taken, x, y, low);
     }
-    if graph::rows::adjacent(taken, b, d) {
-        return true;
-    }
-    graph::rows::adjacent(taken, c, d)
+    low
 }
 
 // Is one of the six pairs used?
+#[tactic(auto, unfolding(crate::specs::Pass::touched))]
 fn touched_of(taken: &[u64], a: usize, b: usize, c: usize, d: usize) -> bool
     requires { (length taken.now ≡ 256) × (a < 128) × (b < 128) × (c < 128) × (d < 128) }
     ensures { result ≡ touched a b c d (word_edge taken.now) }
 {
-    if graph::rows::adjacent(taken, a, b) {
-        return true;
-    }
-    if graph::rows::adjacent(taken, a, c) {
-        return true;
-    }
-    if graph::rows::adjacent(taken, a, d) {
-        return true;
-    }
-    touched_last(taken, b, c, d)
+    graph::rows::adjacent(taken, a, b)
+        || graph::rows::adjacent(taken, a, c)
+        || graph::rows::adjacent(taken, a, d)
+        || graph::rows::adjacent(taken, b, c)
+        || graph::rows::adjacent(taken, b, d)
+        || graph::rows::adjacent(taken, c, d)
 }
 
 // The quad a, b, c, d is visited: the sum after it, 4,294,967,295 where that is past the room.

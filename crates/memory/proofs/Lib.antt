@@ -1,4 +1,2 @@
-pub mod Gaps
 pub mod Inserting
 pub mod Marking
-pub mod Choosing

@@ -1,10 +1,9 @@
--- The table of costs: places marked and given back one by one, and the place and the number of a pair. Assumes nothing.
+-- The table of costs: places marked and given back one by one. Assumes nothing.
 use mathlib.Core.Path.{◌≡◌, refl, sym, ap, ◌∙◌}
 use mathlib.Core.Logic.{◌⊎◌, inl, inr, ◌≢◌}
 use mathlib.Core.Bool.{true, false}
 use mathlib.Core.List.{List, [], ◌∷◌}
-use Prim.Native.Nat.{ℕ, zero, suc, ◌+◌, ◌*◌, ◌/◌, ◌≤◌, ◌<◌}
-use native.Mathlib.Nat.{mul-le-mul}
+use Prim.Native.Nat.{ℕ, zero, suc, ◌+◌, ◌<◌}
 use native.Mathlib.Omega.{arith}
 use native.Mathlib.Numerals.{add-one}
 use borrow.Author.Tests.{ne_eqb}
@@ -14,23 +13,6 @@ use Rattle.bits.proofs.Truth.{never, or_off, equal}
 use Rattle.repair.specs.Pair.{member}
 use Rattle.repair.proofs.Sets.{member_here, member_there}
 use Rattle.memory.specs.Table.{Apart}
-
--- the row of a place times n is small
-pub row_small : (n p : ℕ) → n ≤ 128 → p < 16384 → p / 128 * n ≤ 16256
-row_small n p few fits = omega (arith, mul-le-mul {n₁ = p / 128} {m₁ = n} {n₂ = 127} {m₂ = 128} (omega arith) few)
-
--- the first w places' costs are told
-abbrev pub Told : List ℕ → List ℕ → ℕ → List ℕ → Type 0
-Told cost places w old = (v : ℕ) → v < w → get_or old v 0 ≡ get_or cost (get_or places v 0) 0
-
-pub told_next :
-    (cost places old : List ℕ) (w : ℕ) → w < length old → Told cost places w old →
-    Told cost places (w + 1) (set old w (get_or cost (get_or places w 0) 0))
-told_next cost places old w fits told v less = go (equal v w)
-  where
-    go : (v ≡ w) ⊎ (v ≢ w) → get_or (set old w (get_or cost (get_or places w 0) 0)) v 0 ≡ get_or cost (get_or places v 0) 0
-    go (inl e) = rw e (get_or-set_same old w (get_or cost (get_or places w 0) 0) 0 fits)
-    go (inr e) = get_or-set_other old w v (get_or cost (get_or places w 0) 0) 0 e ∙ told v (omega arith)
 
 -- an entry of a list is a member
 pub entry_member : (xs : List ℕ) (i : ℕ) → i < length xs → member (get_or xs i 0) xs ≡ true

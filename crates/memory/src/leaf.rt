@@ -1,5 +1,5 @@
 // What a node does besides calling itself: the tests, the toggling and the path, and the repair that is kept.
-ghost use Rattle.std.specs.Prelude.{◌≡◌, ◌&&◌, suc, ◌+◌, ◌/◌, ◌%◌, ◌≤◌, ◌<◌, length, take, ltb, leb};
+ghost use Rattle.std.specs.Prelude.{◌≡◌, ◌&&◌, ◌+◌, ◌/◌, ◌%◌, ◌≤◌, ◌<◌, length, take, ltb, leb};
 ghost use Rattle.graph.specs.Graph.{IsGraph, word_edge};
 ghost use Rattle.graph.specs.Quad.{quads};
 ghost use Rattle.graph.specs.Rows.{Toggled};
@@ -7,7 +7,7 @@ ghost use Rattle.repair.specs.Packing.{packing};
 ghost use Rattle.bound.specs.Table.{toll_at, free_at};
 ghost use Rattle.memory.specs.Table.{Place, number_at};
 ghost use Rattle.memory.specs.Trail.{Put, Closed};
-ghost use Rattle.memory.specs.Tally.{Entered, Kept, improves, budget};
+ghost use Rattle.memory.specs.Tally.{Entered, Within, Kept, improves, budget};
 
 use crate::{Tally, table, trail};
 
@@ -18,8 +18,7 @@ pub fn entered(t: Tally) -> Tally
 {
     Tally {
         steps: t.steps + 1,
-        limit: t.limit,
-        kept: t.kept,
+        ..t
     }
 }
 
@@ -28,13 +27,7 @@ pub fn opens(price: u16, spent: u32, most: u64, t: Tally) -> bool
     requires { spent ≤ budget }
     ensures { result ≡ (leb t.steps most && (ltb price 65535 && leb (spent + price) t.limit)) }
 {
-    if most < t.steps {
-        return false;
-    }
-    if price == 65535 {
-        return false;
-    }
-    spent + price as u32 <= t.limit
+    t.steps <= most && price < 65535 && spent + price as u32 <= t.limit
 }
 
 // The price of the node below.
@@ -51,10 +44,7 @@ pub fn leaves(words: &[u64], cost: &[u16], n: usize, prune: bool, spent: u32, li
     requires graph { IsGraph n (word_edge words.now) }
     ensures { result ≡ (prune && ltb limit (spent + packing n (free_at n cost.now) (toll_at n cost.now) (quads n (word_edge words.now)))) }
 {
-    if prune {
-        return bound::pack::cut(words, cost, n, spent, limit);
-    }
-    false
+    prune && bound::pack::cut(words, cost, n, spent, limit)
 }
 
 // The pair at p is toggled, and its number put into the path, at the place that is returned.
@@ -76,33 +66,24 @@ pub fn leave(words: &mut [u64], path: &mut [u16], count: usize, n: usize, p: usi
     ensures toggled { Toggled (p / 128) (p % 128) words.old words.new }
     ensures closed { Closed count at path.old path.new }
 {
-    let x = p / 128;
-    let y = p % 128;
-    graph::rows::toggle(words, x, y);
+    graph::rows::toggle(words, p / 128, p % 128); // back
     trail::close(path, count, at);
 }
 
 // Is the repair of the path kept?
 fn improves(path: &[u16], kept: &[u16], count: usize, spent: u32, t: Tally) -> bool
-    requires { (count ≤ length path.now) × (t.kept ≤ suc (length kept.now)) }
+    requires { (count ≤ length path.now) × Within t.kept (length kept.now) }
     ensures { result ≡ improves (take count path.now) kept.now spent t }
 {
-    if t.kept == 0 {
+    let Some(pairs) = t.kept else {
         return true;
-    }
-    if spent < t.limit {
-        return true; // it is cheaper
-    }
-    if t.limit < spent {
-        return false;
-    }
-    let most = t.kept - 1;
-    trail::precedes(&path[..count], &kept[..most])
+    };
+    spent < t.limit || spent == t.limit && trail::precedes(&path[..count], &kept[..pairs])
 }
 
 // The repair of the path is kept if none is or if it is better.
 pub fn keep(path: &[u16], kept: &mut [u16], count: usize, spent: u32, t: Tally) -> Tally
-    requires { (count ≤ length path.now) × (count ≤ length kept.old) × (t.kept ≤ suc (length kept.old)) }
+    requires { (count ≤ length path.now) × (count ≤ length kept.old) × Within t.kept (length kept.old) }
     ensures { Kept (take count path.now) kept.old kept.new count spent t result }
 {
     if !improves(path, kept, count, spent, t) {
@@ -110,8 +91,8 @@ pub fn keep(path: &[u16], kept: &mut [u16], count: usize, spent: u32, t: Tally) 
     }
     trail::copy(path, kept, count);
     Tally {
-        steps: t.steps,
         limit: spent,
-        kept: count + 1,
+        kept: Some(count),
+        ..t
     }
 }

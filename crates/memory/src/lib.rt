@@ -6,11 +6,11 @@ pub mod leaf;
 pub mod table;
 pub mod trail;
 
-// "One running tally": the steps, the limit, and one more than the number of pairs of the repair that is kept, 0 where none
-// is. Where the tree has too many nodes the steps are one above the step limit.
+// "One running tally": the steps, the limit, and the number of pairs of the repair that is kept, if one is. Where the tree
+// has too many nodes the steps are one above the step limit.
 #[derive(Clone, Copy)]
 pub struct Tally {
     pub steps: u64,
     pub limit: u32,
-    pub kept: usize,
+    pub kept: Option<usize>,
 }

@@ -4,15 +4,14 @@ ghost use Rattle.repair.specs.Pair.{pair_of};
 ghost use Rattle.repair.specs.Packing.{pairs_of};
 ghost use Rattle.memory.specs.Table.{number_at, Marked, Olds, Apart};
 
+use std::{array, mem};
+
 // The place of the pair of x and y.
 fn place(x: usize, y: usize) -> u16
     requires { (x < 128) × (y < 128) }
     ensures { result ≡ pair_of 128 x y }
 {
-    if x < y {
-        return (x * 128 + y) as u16;
-    }
-    (y * 128 + x) as u16
+    (x.min(y) * 128 + x.max(y)) as u16
 }
 
 // The places of ab, ac, ad, bc, bd, cd.
@@ -43,9 +42,7 @@ pub fn mark(cost: &mut [u16], p: usize) -> u16
     requires { p < length cost.old }
     ensures { Marked p cost.old cost.new result }
 {
-    let old = cost[p];
-    cost[p] = 65535;
-    old
+    mem::replace(&mut cost[p], 65535)
 }
 
 // The costs at the six places.
@@ -53,13 +50,7 @@ pub fn costs(cost: &[u16], places: [u16; 6]) -> [u16; 6]
     requires { (w : ℕ) → w < 6 → get_or places w 0 < length cost.now }
     ensures { Olds cost.now places result }
 {
-    let mut old = [0u16; 6];
-    let mut w = 0;
-    while w < 6 {
-        old[w] = cost[places[w] as usize];
-        w += 1;
-    }
-    old
+    array::from_fn(|w| cost[places[w] as usize])
 }
 
 // The six places cost again what they did.
@@ -67,9 +58,7 @@ pub fn restore(cost: &mut [u16], places: [u16; 6], old: [u16; 6])
     requires { (length old ≡ 6) × (length places ≡ 6) × ((w : ℕ) → w < 6 → get_or places w 0 < length cost.old) }
     ensures { (first : List ℕ) → Olds first places old → Apart places first cost.old → cost.new ≡ first }
 {
-    let mut w = 0;
-    while w < 6 {
-        cost[places[w] as usize] = old[w];
-        w += 1;
+    for (p, was) in places.iter().zip(&old) {
+        cost[*p as usize] = *was;
     }
 }

@@ -8,18 +8,5 @@ ghost use Rattle.repair.specs.Better.{shown, smaller};
 pub fn better<'a>(x: &'a [u16], y: &'a [u16]) -> &'a [u16]
     ensures { result ≡ shown (smaller y.now x.now) x.entry y.entry }
 {
-    let mut i: usize = 0;
-    while i < x.len() {
-        if y.len() <= i {
-            return y; // the beginning of x
-        }
-        if x[i] < y[i] {
-            return x;
-        }
-        if y[i] < x[i] {
-            return y;
-        }
-        i += 1;
-    }
-    x
+    if y < x { y } else { x }
 }

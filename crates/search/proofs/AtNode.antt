@@ -11,8 +11,7 @@ use lib.Dec.{leb, ltb}
 use lib.ListN.{length, take}
 use lib.Seq.{length-take-le}
 use Rattle.graph.specs.declared.Quad.{Quad}
-use Rattle.graph.specs.declared.First.{First}
-use Rattle.graph.specs.declared.First.TheVariants.{At, Clear}
+use Rattle.std.specs.Prelude.{Option as Found, None, Some}
 use Rattle.graph.specs.Graph.{word_edge}
 use Rattle.graph.specs.Quad.{quads, first}
 use Rattle.graph.proofs.Quads.{listed_named, first_listed}
@@ -78,17 +77,17 @@ module _
       on : leb most o.steps ≡ false
       on = lt-leb most o.steps (omega (arith, same.steps, step.counted))
 
-      done : (x : First) → first (quads n (word_edge words)) ≡ x → is_clear (first (quads n (present n e s))) ≡ is_clear x
+      done : (x : Found Quad) → first (quads n (word_edge words)) ≡ x → is_clear (first (quads n (present n e s))) ≡ is_clear x
       done x h = ap (λ g. is_clear (first (quads n g))) (sym at.edges) ∙ ap is_clear h
 
       pub node_found :
           (f : ℕ) (r : Tally) (after : List ℕ) → left n toll s < f → count ≤ length path →
-          first (quads n (word_edge words)) ≡ Clear → Kept (take count path) kept after count spent here r →
+          first (quads n (word_edge words)) ≡ None → Kept (take count path) kept after count spent here r →
           Follows toll k most (runs n e toll prune k most f s o) r after
       node_found zero r after fuel long clear keep = absurd (omega arith)
       node_found (suc f) r after fuel long clear keep =
           told (suc f) r after (whole (found (tree n e toll) (best_of (order toll) k) s (entered o)))
-          (run_found (tree n e toll) (best_of (order toll) k) (engine n e toll prune) most f s o on (done Clear clear))
+          (run_found (tree n e toll) (best_of (order toll) k) (engine n e toll prune) most f s o on (done None clear))
           (unfold found entered in
           record {
             steps = keep.same_steps ∙ step.counted ∙ ap suc same.steps;
@@ -106,9 +105,9 @@ module _
               (stored toll k (take count path) kept spent here spent_trail count after r (sym (length-take-le count path long)) keep
               o.kept limit_here held_here)
 
-      module _ (q : Quad) (quad : first (quads n (word_edge words)) ≡ At q) where
+      module _ (q : Quad) (quad : first (quads n (word_edge words)) ≡ Some q) where
         busy : is_clear (first (quads n (present n e s))) ≡ false
-        busy = done (At q) quad
+        busy = done (Some q) quad
 
         -- the engine's test, read from the table
         cuts : Bool
@@ -133,7 +132,7 @@ module _
         -- the ways of the node, by the places of the quad's pairs
         ways_placed : n ≤ 128 → ways_of n (first (quads n (present n e s))) ≡ map (number_at n) (pairs_of 128 q)
         ways_placed few =
-            let here_too : first (quads n (present n e s)) ≡ At q = ap (λ g. first (quads n g)) (sym at.edges) ∙ quad in
+            let here_too : first (quads n (present n e s)) ≡ Some q = ap (λ g. first (quads n g)) (sym at.edges) ∙ quad in
             ap (ways_of n) here_too ∙
             sym (places_numbers n (present n e s) few q (listed_named n (present n e s) q (first_listed n (present n e s) q here_too)))
 

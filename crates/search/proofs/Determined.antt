@@ -7,8 +7,8 @@ use mathlib.Core.Option.{Option, none, some}
 use Prim.Native.Nat.{ℕ}
 use native.Mathlib.Omega.{arith}
 use lib.ListN.{length, drop}
-use Rattle.graph.specs.declared.Finding.{Finding}
-use Rattle.graph.specs.declared.Finding.TheVariants.{Fine, Fault}
+use Rattle.std.specs.Prelude.{Result, Ok, Err}
+use Rattle.graph.specs.declared.Refusal.{Refusal}
 use Rattle.graph.proofs.Leading.{fault_not_fine}
 use Rattle.walk.specs.Best.{IsBest}
 use Rattle.walk.proofs.Single.{best_only}
@@ -17,13 +17,13 @@ use Rattle.repair.specs.Repair.{Repair, toll_of}
 use Rattle.repair.specs.Tree.{order}
 use Rattle.repair.proofs.Instance.{ordered}
 use Rattle.graph.specs.Graph.{edge}
-use Rattle.graph.specs.Refusal.{first_of}
+use Rattle.graph.specs.Refusal.{refusal}
 use Rattle.search.specs.declared.Answer.{Answer}
-use Rattle.search.specs.declared.Answer.TheVariants.{Refused, Stopped, Nothing, Repaired}
-use Rattle.search.specs.Answer.{checks, refusal, Over, None, Best, Meant, Promise}
+use Rattle.search.specs.declared.Answer.TheVariants.{Stopped, Nothing, Repaired}
+use Rattle.search.specs.Answer.{Over, None, Best, Answered, Meant, Promise}
 
 -- an answer with the list it leaves
-abbrev Equal : (r s : Answer) (a b : List ℕ) → Type 0
+abbrev Equal : (r s : Result Answer Refusal) (a b : List ℕ) → Type 0
 Equal r s a b = (r ≡ s) × (a ≡ b)
 
 module _ (prune : Bool) (n : ℕ) (e : ℕ → ℕ → Bool) (toll : ℕ → ℕ) (k most : ℕ) (list : List ℕ) where
@@ -46,14 +46,14 @@ module _ (prune : Bool) (n : ℕ) (e : ℕ → ℕ → Bool) (toll : ℕ → ℕ
   some_none : (r : List ℕ) → some r ≡ none → ⊥
   some_none r h = let z : ◌≡◌ {A = ℕ} 0 1 = cc in omega arith
 
-  overs : {s t : ℕ} {a b : List ℕ} → OverOf s a → OverOf t b → Equal (Stopped s) (Stopped t) a b
-  overs x y = (ap Stopped (x.limit ∙ sym y.limit), x.unchanged ∙ sym y.unchanged)
+  overs : {s t : ℕ} {a b : List ℕ} → OverOf s a → OverOf t b → Equal (Ok (Stopped s)) (Ok (Stopped t)) a b
+  overs x y = (ap (λ m. Ok (Stopped m)) (x.limit ∙ sym y.limit), x.unchanged ∙ sym y.unchanged)
 
-  nones : {s t : ℕ} {a b : List ℕ} → NoneOf s a → NoneOf t b → Equal (Nothing s) (Nothing t) a b
-  nones x y = (ap Nothing (x.counted ∙ sym y.counted), x.unchanged ∙ sym y.unchanged)
+  nones : {s t : ℕ} {a b : List ℕ} → NoneOf s a → NoneOf t b → Equal (Ok (Nothing s)) (Ok (Nothing t)) a b
+  nones x y = (ap (λ m. Ok (Nothing m)) (x.counted ∙ sym y.counted), x.unchanged ∙ sym y.unchanged)
 
   bests :
-      {c d m l s t : ℕ} {a b : List ℕ} → BestOf c m s a → BestOf d l t b → Equal (Repaired c m s) (Repaired d l t) a b
+      {c d m l s t : ℕ} {a b : List ℕ} → BestOf c m s a → BestOf d l t b → Equal (Ok (Repaired c m s)) (Ok (Repaired d l t)) a b
   bests x y =
       let same = same_repair_lem x.repair y.repair (only (some x.repair) (some y.repair) x.best y.best) in
       let price_same = x.paid ∙ ap (price toll) same ∙ sym y.paid in
@@ -63,55 +63,43 @@ module _ (prune : Bool) (n : ℕ) (e : ℕ → ℕ → Bool) (toll : ℕ → ℕ
 
   -- the same answer where both searched
   searched :
-      (r s : Answer) (a b : List ℕ) → refusal r ≡ Fine → refusal s ≡ Fine → Meant prune n e toll k most list r a →
-      Meant prune n e toll k most list s b → Equal r s a b
-  searched (Refused u i j) s a b p q x y = absurd (fault_not_fine p)
-  searched (Stopped s) (Refused u i j) a b p q x y = absurd (fault_not_fine q)
-  searched (Stopped s) (Stopped t) a b p q x y = overs x y
-  searched (Stopped s) (Nothing t) a b p q x y = absurd (omega (arith, x.more, y.within))
-  searched (Stopped s) (Repaired c m t) a b p q x y = absurd (omega (arith, x.more, y.within))
-  searched (Nothing s) (Refused u i j) a b p q x y = absurd (fault_not_fine q)
-  searched (Nothing s) (Stopped t) a b p q x y = absurd (omega (arith, x.within, y.more))
-  searched (Nothing s) (Nothing t) a b p q x y = nones x y
-  searched (Nothing s) (Repaired c m t) a b p q x y =
+      (r s : Answer) (a b : List ℕ) → Answered prune n e toll k most list r a → Answered prune n e toll k most list s b →
+      Equal (Ok r) (Ok s) a b
+  searched (Stopped s) (Stopped t) a b x y = overs x y
+  searched (Stopped s) (Nothing t) a b x y = absurd (omega (arith, x.more, y.within))
+  searched (Stopped s) (Repaired c m t) a b x y = absurd (omega (arith, x.more, y.within))
+  searched (Nothing s) (Stopped t) a b x y = absurd (omega (arith, x.within, y.more))
+  searched (Nothing s) (Nothing t) a b x y = nones x y
+  searched (Nothing s) (Repaired c m t) a b x y =
       absurd (some_none y.repair (only (some y.repair) none y.best x.best))
-  searched (Repaired c m s) (Refused u i j) a b p q x y = absurd (fault_not_fine q)
-  searched (Repaired c m s) (Stopped t) a b p q x y = absurd (omega (arith, x.within, y.more))
-  searched (Repaired c m s) (Nothing t) a b p q x y =
+  searched (Repaired c m s) (Stopped t) a b x y = absurd (omega (arith, x.within, y.more))
+  searched (Repaired c m s) (Nothing t) a b x y =
       absurd (some_none x.repair (only (some x.repair) none x.best y.best))
-  searched (Repaired c m s) (Repaired d l t) a b p q x y = bests x y
+  searched (Repaired c m s) (Repaired d l t) a b x y = bests x y
 
-  -- the same refusal
-  refused :
-      (r s : Answer) (a b : List ℕ) (u i j : ℕ) → refusal r ≡ Fault u i j → refusal s ≡ Fault u i j →
-      Meant prune n e toll k most list r a → Meant prune n e toll k most list s b → Equal r s a b
-  refused (Refused u i j) (Refused v l m) a b w g h p q x y = (cc, x ∙ sym y)
-  refused (Refused u i j) (Stopped s) a b w g h p q x y = absurd (fault_not_fine (sym q))
-  refused (Refused u i j) (Nothing s) a b w g h p q x y = absurd (fault_not_fine (sym q))
-  refused (Refused u i j) (Repaired c m s) a b w g h p q x y = absurd (fault_not_fine (sym q))
-  refused (Stopped s) r a b w g h p q x y = absurd (fault_not_fine (sym p))
-  refused (Nothing s) r a b w g h p q x y = absurd (fault_not_fine (sym p))
-  refused (Repaired c m s) r a b w g h p q x y = absurd (fault_not_fine (sym p))
+  -- the same refusal, or both searched
+  determined :
+      (r s : Result Answer Refusal) (a b : List ℕ) → refusal r ≡ refusal s → Meant prune n e toll k most list r a →
+      Meant prune n e toll k most list s b → Equal r s a b
+  determined (Err r) (Err s) a b same x y = (cc, x ∙ sym y)
+  determined (Err r) (Ok s) a b same x y = absurd (fault_not_fine same)
+  determined (Ok r) (Err s) a b same x y = absurd (fault_not_fine (sym same))
+  determined (Ok r) (Ok s) a b same x y = searched r s a b x y
 
-module _ (prune : Bool) (n : ℕ) (g ps : List ℕ) (k most : ℕ) (list : List ℕ) where
-  -- "Every public function's contract determines its answer and the final content of all memory lent to it"
-  pub engine_determined :
-      (r s : Answer) (a b : List ℕ) → Promise prune n g ps k most list r a → Promise prune n g ps k most list s b →
-      (r ≡ s) × (a ≡ b)
-  engine_determined r s a b x y = go (first_of (checks n g ps k list)) refl
-    where
-      go : (f : Finding) → first_of (checks n g ps k list) ≡ f → (r ≡ s) × (a ≡ b)
-      go Fine h = searched prune n (edge n g) (toll_of ps) k most list r s a b (x.refused ∙ h) (y.refused ∙ h) x.meant y.meant
-      go (Fault u i j) h =
-          refused prune n (edge n g) (toll_of ps) k most list r s a b u i j (x.refused ∙ h) (y.refused ∙ h) x.meant y.meant
+-- "Every public function's contract determines its answer and the final content of all memory lent to it"
+pub engine_determined :
+    (prune : Bool) (n : ℕ) (g ps : List ℕ) (k most : ℕ) (list : List ℕ) (r s : Result Answer Refusal) (a b : List ℕ) →
+    Promise prune n g ps k most list r a → Promise prune n g ps k most list s b → (r ≡ s) × (a ≡ b)
+engine_determined prune n g ps k most list r s a b x y =
+    determined prune n (edge n g) (toll_of ps) k most list r s a b (x.refused ∙ sym y.refused) x.meant y.meant
 
 -- for either engine
 pub plain_determined :
-    (n : ℕ) (g ps : List ℕ) (k most : ℕ) (list : List ℕ) (r s : Answer) (a b : List ℕ) →
+    (n : ℕ) (g ps : List ℕ) (k most : ℕ) (list : List ℕ) (r s : Result Answer Refusal) (a b : List ℕ) →
     Promise false n g ps k most list r a → Promise false n g ps k most list s b → (r ≡ s) × (a ≡ b)
 plain_determined = engine_determined false
 
 pub pruned_determined :
-    (n : ℕ) (g ps : List ℕ) (k most : ℕ) (list : List ℕ) (r s : Answer) (a b : List ℕ) →
+    (n : ℕ) (g ps : List ℕ) (k most : ℕ) (list : List ℕ) (r s : Result Answer Refusal) (a b : List ℕ) →
     Promise true n g ps k most list r a → Promise true n g ps k most list s b → (r ≡ s) × (a ≡ b)
 pruned_determined = engine_determined true

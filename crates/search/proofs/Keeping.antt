@@ -1,19 +1,17 @@
 -- The repair that is kept: the test on the lists and prices is the tree's, and what is stored is what the tree keeps.
 -- Assumes nothing.
-use mathlib.Core.Path.{◌≡◌, ap, ap₂, ◌∙◌}
+use mathlib.Core.Path.{◌≡◌, refl, ap, ap₂, ◌∙◌}
 use mathlib.Core.Logic.{◌⊎◌, inl, inr}
 use mathlib.Core.Bool.{true, false, ◌&&◌, ◌||◌}
 use mathlib.Core.List.{List, ◌++◌}
 use mathlib.Core.Option.{Option, none, some}
-use Prim.Native.Nat.{ℕ, suc, ◌-◌}
-use native.Mathlib.Numerals.{add-one}
-use native.Mathlib.Omega.{arith}
-use borrow.Author.Tests.{eq-eqb, ne_eqb}
+use Prim.Native.Nat.{ℕ}
+use Rattle.std.specs.Prelude.{Some, None}
 use lib.Dec.{ltb, eqb}
 use lib.ListN.{length, take, drop}
 use lib.Seq.{take-append_seam}
 use Rattle.bits.specs.Choice.{pick}
-use Rattle.bits.proofs.Truth.{which, or_left, pick_true, pick_false}
+use Rattle.bits.proofs.Truth.{which, pick_true, pick_false}
 use Rattle.walk.specs.Best.{keep_better, limit_of}
 use Rattle.repair.specs.Better.{smaller, price, better}
 use Rattle.repair.specs.Tree.{order}
@@ -28,22 +26,18 @@ pub record Stored (toll : ℕ → ℕ) (k : ℕ) (o : Option (List ℕ)) (r : Ta
 
 module _ (toll : ℕ → ℕ) (k : ℕ) (trail list : List ℕ) (spent : ℕ) (t : Tally) (cost : spent ≡ price toll trail) where
   -- with nothing kept every repair is
-  improves_none : t.kept ≡ 0 → improves trail list spent t ≡ true
-  unfolding improves
-  improves_none h = or_left _ (eq-eqb t.kept 0 h)
+  improves_none : t.kept ≡ None → improves trail list spent t ≡ true
+  improves_none h = rw h refl
 
   -- else it is the order's test
   improves_better :
       (b : List ℕ) → t.limit ≡ price toll b → Holds t.kept list (some b) →
       improves trail list spent t ≡ better toll trail b
-  unfolding improves better smaller
+  unfolding better smaller
   improves_better b limit holds =
-      let some_kept : eqb t.kept 0 ≡ false = ne_eqb t.kept 0 (omega (arith, holds.0)) in
-      let less : t.kept - 1 ≡ length b = omega (arith, holds.0) in
-      let same : take (t.kept - 1) list ≡ b = ap (λ m. take m list) less ∙ holds.1 in
-      ap (λ z. z || (ltb spent t.limit || (eqb spent t.limit && smaller trail (take (t.kept - 1) list)))) some_kept ∙
-      ap₂ (λ x y. ltb x y || (eqb x y && smaller trail (take (t.kept - 1) list))) cost limit ∙
-      ap (λ l. ltb (price toll trail) (price toll b) || (eqb (price toll trail) (price toll b) && smaller trail l)) same
+      rw holds.0
+      (ap₂ (λ x y. ltb x y || (eqb x y && smaller trail (take (length b) list))) cost limit ∙
+      ap (λ l. ltb (price toll trail) (price toll b) || (eqb (price toll trail) (price toll b) && smaller trail l)) holds.1)
 
   module _ (count : ℕ) (after : List ℕ) (r : Tally) (many : count ≡ length trail) (done : Kept trail list after count spent t r) where
     stored_new : improves trail list spent t ≡ true → Stored toll k (some trail) r after
@@ -53,7 +47,7 @@ module _ (toll : ℕ → ℕ) (k : ℕ) (trail list : List ℕ) (spent : ℕ) (t
         record {
           limit = done.new_limit ∙ pick_true _ _ h ∙ cost;
           kept = (
-            done.new_kept ∙ pick_true _ _ h ∙ add-one count ∙ ap suc many,
+            done.new_kept ∙ pick_true _ _ h ∙ ap Some many,
             ap (take (length trail)) whole ∙ take-append_seam trail (drop count list),
           );
         }

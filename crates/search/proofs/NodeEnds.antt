@@ -8,22 +8,22 @@ use lib.Dec.{ltb}
 use lib.ListN.{length, take}
 use Rattle.bits.specs.Choice.{pick}
 use Rattle.graph.specs.declared.Quad.{Quad}
-use Rattle.graph.specs.declared.First.TheVariants.{At, Clear}
+use Rattle.std.specs.Prelude.{Option, None, Some}
 use Rattle.graph.specs.Graph.{word_edge}
 use Rattle.graph.specs.Quad.{quads, first}
 use Rattle.graph.proofs.Quads.{Named, listed_named, first_listed}
 use Rattle.repair.specs.Packing.{pairs_of, packing}
 use Rattle.memory.specs.declared.Tally.{Tally}
 use Rattle.bound.specs.Table.{toll_at, free_at}
-use Rattle.memory.specs.Tally.{improves, Entered, Kept}
-use Rattle.search.specs.Memory.{Sound}
+use Rattle.memory.specs.Tally.{improves, Entered, Kept, Within}
+use Rattle.search.specs.Memory.{pairs, Sound}
 use Rattle.search.specs.Steps.{Ready, Back, Six, NodeLeft, WaysLeft}
-use Rattle.search.proofs.Safety.{pairs_small}
+use Rattle.search.proofs.Safety.{pairs_small, within_more, within_as}
 use Rattle.search.proofs.Placing.{places_six}
 use Rattle.search.proofs.AtNode.{node_stopped, node_found, node_left, node_branched}
 
 -- the first quad's vertices are below n
-pub quad_inside : (n : ℕ) (words : List ℕ) (q : Quad) → first (quads n (word_edge words)) ≡ At q → Named n (word_edge words) q
+pub quad_inside : (n : ℕ) (words : List ℕ) (q : Quad) → first (quads n (word_edge words)) ≡ Some q → Named n (word_edge words) q
 quad_inside n words q h = listed_named n (word_edge words) q (first_listed n (word_edge words) q h)
 
 pub untouched : (words cost path : List ℕ) (count : ℕ) → Back words cost path count words cost path
@@ -41,7 +41,7 @@ module _
         record {
           counted = omega (arith, step.counted);
           bounded = omega (arith, step.limited, ready.sound.bounded);
-          listed = omega (arith, step.held, ready.sound.listed);
+          listed = rw step.held ready.sound.listed;
         }
 
     pub ready_here : Ready n most words cost path kept count spent here
@@ -54,8 +54,8 @@ module _
     pub kept_room : count ≤ length kept
     kept_room = omega (arith, ready.safe.room, ready.safe.wide, pairs_small n ready.safe.few)
 
-    pub kept_fits : here.kept ≤ suc (length kept)
-    kept_fits = omega (arith, sound_here.listed, ready.safe.wide, pairs_small n ready.safe.few)
+    pub kept_fits : Within here.kept (length kept)
+    kept_fits = within_more here.kept sound_here.listed (omega (arith, ready.safe.wide, pairs_small n ready.safe.few))
 
     pub end_stopped :
         most < here.steps →
@@ -72,22 +72,22 @@ module _
       sound_kept after r keep = go (improves (take count path) kept spent here) keep.new_limit keep.new_kept
         where
           go :
-              (b : Bool) → r.limit ≡ pick b spent here.limit → r.kept ≡ pick b (count + 1) here.kept → Sound n most r
+              (b : Bool) → r.limit ≡ pick b spent here.limit → r.kept ≡ pick b (Some count) here.kept → Sound n most r
           go true a b =
               record {
                 counted = omega (arith, keep.same_steps);
                 bounded = omega (arith, ready.safe.paid);
-                listed = omega (arith, ready.safe.room);
+                listed = within_as (pairs n) b (omega (arith, ready.safe.room));
               }
           go false a b =
               record {
                 counted = omega (arith, keep.same_steps);
                 bounded = omega (arith, sound_here.bounded);
-                listed = omega (arith, sound_here.listed);
+                listed = within_as (pairs n) b sound_here.listed;
               }
 
       pub end_found :
-          (after : List ℕ) (r : Tally) → first (quads n (word_edge words)) ≡ Clear →
+          (after : List ℕ) (r : Tally) → first (quads n (word_edge words)) ≡ None →
           Kept (take count path) kept after count spent here r →
           NodeLeft n prune most words cost path kept count spent t r words cost path after
       end_found after r clear keep =
@@ -97,7 +97,7 @@ module _
             walked = λ e toll k f s o at fuel same. node_found prune at same step l f r after fuel path_room clear keep;
           }
 
-      module _ (q : Quad) (quad : first (quads n (word_edge words)) ≡ At q) where
+      module _ (q : Quad) (quad : first (quads n (word_edge words)) ≡ Some q) where
         abbrev leaves : Bool
         leaves = prune && ltb here.limit (spent + packing n (free_at n cost) (toll_at n cost) (quads n (word_edge words)))
 

@@ -18,7 +18,8 @@ use Rattle.repair.proofs.Counts.{count_fewer, count_lost}
 use Rattle.bound.specs.Table.{toll_at, free_at}
 use Rattle.memory.specs.Table.{Place, number_at}
 use Rattle.search.specs.Memory.{open_pairs}
-use Rattle.memory.specs.Tally.{budget}
+use Rattle.memory.specs.Tally.{budget, Within}
+use Rattle.std.specs.Prelude.{Option, None, Some}
 use Rattle.search.specs.Memory.{pairs, Safe}
 use Rattle.search.proofs.Placing.{index, number_below}
 use Rattle.search.proofs.States.{toll_here, free_here}
@@ -52,6 +53,14 @@ module _ (n : ℕ) (cost : List ℕ) (p : ℕ) (table : length cost ≡ 16384) (
 pub pairs_small : (n : ℕ) → n ≤ 128 → pairs n ≤ 8128
 unfolding pairs
 pairs_small n few = omega (arith, mul-le-mul {n₁ = n} {m₁ = n - 1} {n₂ = 128} {m₂ = 127} few (omega arith))
+
+-- what is kept is within a greater number too, and so is what equals it
+pub within_more : (o : Option ℕ) {a b : ℕ} → Within o a → a ≤ b → Within o b
+within_more None h l = tt
+within_more (Some pairs) h l = omega arith
+
+pub within_as : (a : ℕ) {o p : Option ℕ} → o ≡ p → Within p a → Within o a
+within_as a e h = rw e h
 
 module _ {n : ℕ} {words cost path kept : List ℕ} {count spent : ℕ} (safe : Safe n words cost path kept count spent) where
   -- other lists of the same lengths

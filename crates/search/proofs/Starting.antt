@@ -13,7 +13,7 @@ use lib.ListN.{length, get_or}
 use Rattle.bits.specs.Choice.{pick}
 use Rattle.bits.proofs.Truth.{which, and_in, and_left, and_right, and_on, pick_false}
 use Rattle.bits.proofs.Counting.{count_mono}
-use Rattle.graph.specs.declared.Finding.TheVariants.{Fine}
+use Rattle.std.specs.Prelude.{Ok, None}
 use Rattle.graph.specs.Price.{fixed, price_entries}
 use Rattle.graph.specs.Graph.{IsGraph, row_edge, word_edge}
 use Rattle.graph.specs.Rows.{Flat}
@@ -75,7 +75,7 @@ module _ (n : ℕ) (ps cost : List ℕ) (few : n ≤ 128) (made : Costs n ps cos
   unfolding open_pairs pairs
   open_room = omega (arith, count_mono (n * n) {f = free_at n cost} {g = is_pair n} open_pair, pairs_counted n, mul-sub n n 1, mul-one n)
 
-  module _ (fine : price_entries n ps ≡ Fine) where
+  module _ (fine : price_entries n ps ≡ Ok tt) where
     -- at the root a pair is free if it may be changed
     free_root : (x : ℕ) → free n (toll_of ps) root x ≡ changeable n (toll_of ps) x
     unfolding free member
@@ -90,7 +90,7 @@ module _ (n : ℕ) (ps cost : List ℕ) (few : n ≤ 128) (made : Costs n ps cos
 
 -- the tally at the start
 abbrev pub start : ℕ → Tally
-start k = record { steps = 0; limit = k; kept = 0 }
+start k = record { steps = 0; limit = k; kept = None }
 
 -- the root
 module _
@@ -123,7 +123,7 @@ module _
               record {
                 counted = omega arith;
                 bounded = given.within;
-                listed = omega arith;
+                listed = tt;
               };
           large = large;
         }

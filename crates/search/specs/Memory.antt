@@ -1,5 +1,6 @@
 -- The working memory of the search, and what it stands for: a node of document 01's tree, and the tally. Assumes nothing.
 use Rattle.std.specs.Prelude.{◌≡◌, Bool, true, List, ℕ, suc, ◌+◌, ◌*◌, ◌-◌, ◌/◌, ◌≤◌, ◌<◌, length, get_or, take}
+use Rattle.std.specs.Prelude as prelude
 use Rattle.std.proofs.Math.Option.{Option, none, some}
 use Rattle.bits.specs.Choice.{count}
 use Rattle.graph.specs.Graph.{IsGraph, word_edge}
@@ -14,7 +15,7 @@ use Rattle.repair.specs.Tree.{Node, order, present, free}
 use Rattle.memory.specs.declared.Tally.{Tally}
 use Rattle.bound.specs.Table.{toll_at, free_at}
 use Rattle.memory.specs.Table.{Place}
-use Rattle.memory.specs.Tally.{budget}
+use Rattle.memory.specs.Tally.{budget, Within}
 
 -- "n(n-1)/2": how many pairs n vertices have
 unfoldable pub pairs : ℕ → ℕ
@@ -40,7 +41,7 @@ pub record Safe (n : ℕ) (words cost path kept : List ℕ) (count spent : ℕ) 
 pub record Sound (n most : ℕ) (t : Tally) : Type 0 where
   pub counted : t.steps ≤ suc most
   pub bounded : t.limit ≤ budget
-  pub listed : t.kept ≤ suc (pairs n)
+  pub listed : Within t.kept (pairs n)
 
 -- the memory stands for the node s of the tree of the graph e at the prices `toll`
 pub record At (n : ℕ) (e : ℕ → ℕ → Bool) (toll : ℕ → ℕ) (s : Node) (words cost path : List ℕ) (count spent : ℕ) : Type 0 where
@@ -51,10 +52,10 @@ pub record At (n : ℕ) (e : ℕ → ℕ → Bool) (toll : ℕ → ℕ) (s : Nod
   pub price : spent ≡ price toll s.path
   pub held : (x : ℕ) → member x s.path ≡ true → member x s.marks ≡ true
 
--- what is kept: nothing, or the list's first entries, one less than `code`
-abbrev pub Holds : ℕ → List ℕ → Option (List ℕ) → Type 0
-Holds code list none = code ≡ 0
-Holds code list (some r) = (code ≡ suc (length r)) × (take (length r) list ≡ r)
+-- what is kept: nothing, or the list's first entries, as many as are told
+abbrev pub Holds : prelude.Option ℕ → List ℕ → Option (List ℕ) → Type 0
+Holds told list none = told ≡ prelude.None
+Holds told list (some r) = (told ≡ prelude.Some (length r)) × (take (length r) list ≡ r)
 
 -- the tally is the tree's, and not above the step limit
 pub record Same (toll : ℕ → ℕ) (k most : ℕ) (o : problem.Tally (Option (List ℕ))) (t : Tally) (list : List ℕ) : Type 0 where

@@ -3,7 +3,6 @@ ghost use Rattle.std.specs.Prelude.{◌≡◌, ◌+◌, ◌≤◌, ◌<◌};
 ghost use Rattle.memory.specs.Table.{Place};
 ghost use Rattle.search.specs.Steps.{Ready, Six, NodeLeft, WaysLeft, WayLeft};
 
-use graph::First;
 use memory::{Tally, leaf, table};
 
 // Entering a node is one step. A node with no quad is a repair; else its ways are tried, unless the node is left.
@@ -29,8 +28,8 @@ pub fn node(
         return here;
     }
     match graph::seek::first_quad(words, n) {
-        First::Clear => leaf::keep(path, kept, count, spent, here),
-        First::At(q) => {
+        None => leaf::keep(path, kept, count, spent, here),
+        Some(q) => {
             if leaf::leaves(words, cost, n, prune, spent, here.limit) {
                 return here;
             }
@@ -72,22 +71,10 @@ fn ways(
 {
     let old = table::costs(cost, places);
     let mut tally = t;
-    let mut w = 0;
-    while w < 6 {
+    for p in places {
         tally = way(
-            words,
-            cost,
-            path,
-            kept,
-            n,
-            prune,
-            most,
-            count,
-            spent,
-            places[w] as usize,
-            tally,
+            words, cost, path, kept, n, prune, most, count, spent, p as usize, tally,
         );
-        w += 1;
     }
     table::restore(cost, places, old);
     tally

@@ -5,9 +5,9 @@ use native.Mathlib.Omega.{arith}
 use Rattle.graph.specs.Graph.{row_edge}
 use Rattle.repair.specs.Repair.{toll_of}
 use Rattle.repair.proofs.Tolls.{tolls_positive}
-use Rattle.search.proofs.Safety.{pairs_small}
+use Rattle.search.proofs.Safety.{pairs_small, within_more}
 use Rattle.search.proofs.Starting.{ready_root, followed}
-use Rattle.search.proofs.Ending.{told_searched, meant}
+use Rattle.search.proofs.Ending.{meant}
 use Rattle.search.proofs.engine.Goals as goal
 
 pub node-t-requires : goal.node-t-requires
@@ -20,17 +20,13 @@ node-t-requires c =
 pub told-requires : goal.told-requires
 told-requires c =
     let d = c.node-t in
-    (omega (arith, d.ensures.sound.listed, d.auto, pairs_small c.args.n c.requires.few), omega (arith, d.ensures.sound.listed, c.requires.room))
+    let small = pairs_small c.args.n c.requires.few in
+    (within_more d.result.kept d.ensures.sound.listed (omega (arith, d.auto, small)), within_more d.result.kept d.ensures.sound.listed c.requires.room)
 
 pub returns : goal.returns
 returns c =
     let d = c.node-t in
     let told = c.told in
-    let flat = c.flat_of-words.ensures in
-    let made = c.costs-cost.ensures in
-    record {
-      result_value = told_searched c.args.most d.result d.new.kept c.args.list.now told.result told.new.list told.ensures;
-      meant = meant c.args.prune c.args.n (row_edge c.args.rows) (toll_of c.args.prices.now) c.args.k c.args.most d.new.kept c.args.list.now d.result
-          c.requires.graph (tolls_positive c.args.n c.args.prices.now c.requires.priced)
-          (followed _ _ c.requires flat made refl refl c.args.prune c.args.most d.result d.new.words d.new.cost d.new.path d.new.kept d.ensures) told.result told.new.list told.ensures;
-    }
+    meant c.args.prune c.args.n (row_edge c.args.rows) (toll_of c.args.prices.now) c.args.k c.args.most d.new.kept c.args.list.now d.result
+    c.requires.graph (tolls_positive c.args.n c.args.prices.now c.requires.priced)
+    (followed _ _ c.requires c.flat_of-words.ensures c.costs-cost.ensures refl refl c.args.prune c.args.most d.result d.new.words d.new.cost d.new.path d.new.kept d.ensures) told.result told.new.list told.ensures

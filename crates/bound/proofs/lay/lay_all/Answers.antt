@@ -1,17 +1,18 @@
--- `bound::lay::lay_all` meets its contract: the six pairs from the last. Assumes nothing.
-use Rattle.bound.specs.Pass.{laid, lower, laid_all, fee}
-use Rattle.bound.proofs.Laying.{laid_on}
+use native.Mathlib.Omega.{arith}
+use mathlib.Core.Path.{◌≡◌, refl}
+use Rattle.bound.specs.Pass.{laid_all, fee}
+use Rattle.bound.proofs.Laying.{laid_more}
 use Rattle.bound.proofs.lay.lay_all.Goals as goal
+
+pub loop-x-init : goal.loop-x-init
+loop-x-init c =
+    record { many = c.requires.cost_len.1; edges = refl; lowest = refl }
+
+pub loop-x-preserved : goal.loop-x-preserved
+loop-x-preserved c =
+    laid_more _ _ _ _ _ c.loop-x-test.true c.loop-x.invariant c.lay-low.ensures
 
 pub returns : goal.returns
 unfolding laid_all fee
 returns c =
-    let cost = c.args.cost.now in
-    laid_on (laid cost c.args.a c.args.b) (lower cost c.args.a c.args.b)
-    (laid_on (λ u. laid cost c.args.a c.args.c (laid cost c.args.a c.args.d u))
-    (λ m. lower cost c.args.a c.args.c (lower cost c.args.a c.args.d m))
-    (laid_on (λ u. laid cost c.args.b c.args.c (laid cost c.args.b c.args.d u))
-    (λ m. lower cost c.args.b c.args.c (lower cost c.args.b c.args.d m)) c.lay-m.ensures
-    c.lay_two-k.ensures)
-    c.lay_two-l.ensures)
-    c.lay.ensures
+    let six : c.loop-x.x-index ≡ 6 = omega (arith, c.loop-x-test.false, c.loop-x.auto.x-index-end) in rw six at c.loop-x.invariant

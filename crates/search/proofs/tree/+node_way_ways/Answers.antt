@@ -48,12 +48,12 @@ node-leaves-requires t c =
 pub node-returns-then-leaves : goal.node-returns-then-leaves
 node-returns-then-leaves t c =
     end_left c.args.prune c.requires.ready c.requires.steps_le_most c.entered-here.ensures c.if-most-here.false
-    c.in-At.q (sym c.first_quad.ensures ∙ c.in-At.is)
+    c.in-Some.q (sym c.first_quad.ensures ∙ c.in-Some.is)
     (sym c.leaves.ensures ∙ c.if-leaves.true)
 
 pub node-places-requires : goal.node-places-requires
 node-places-requires t c =
-    let i = quad_inside c.args.n c.args.words.now c.in-At.q (sym c.first_quad.ensures ∙ c.in-At.is) in
+    let i = quad_inside c.args.n c.args.words.now c.in-Some.q (sym c.first_quad.ensures ∙ c.in-Some.is) in
     let few = c.requires.ready.safe.few in
     (omega (arith, i.a_in), omega (arith, i.b_in), omega (arith, i.c_in), omega (arith, i.d_in))
 
@@ -64,20 +64,20 @@ node-ways-requires t c =
       omega arith,
       (
         ready_here c.args.prune r c.requires.steps_le_most step,
-        six_places c.args.prune r c.requires.steps_le_most step c.if-most-here.false c.in-At.q (sym c.first_quad.ensures ∙ c.in-At.is) c.places.result c.places.ensures,
+        six_places c.args.prune r c.requires.steps_le_most step c.if-most-here.false c.in-Some.q (sym c.first_quad.ensures ∙ c.in-Some.is) c.places.result c.places.ensures,
       ),
     )
 
-pub node-returns-in-Clear : goal.node-returns-in-Clear
-node-returns-in-Clear t c =
+pub node-returns-in-None : goal.node-returns-in-None
+node-returns-in-None t c =
     end_found c.args.prune c.requires.ready c.requires.steps_le_most c.entered-here.ensures c.if-most-here.false
-    c.keep.new.kept c.keep.result (sym c.first_quad.ensures ∙ c.in-Clear.is) c.keep.ensures
+    c.keep.new.kept c.keep.result (sym c.first_quad.ensures ∙ c.in-None.is) c.keep.ensures
 
 pub node-returns-else-leaves : goal.node-returns-else-leaves
 node-returns-else-leaves t c =
     let w = c.ways in
     end_ways c.args.prune c.requires.ready c.requires.steps_le_most c.entered-here.ensures c.if-most-here.false
-    c.in-At.q (sym c.first_quad.ensures ∙ c.in-At.is) c.places.result w.result
+    c.in-Some.q (sym c.first_quad.ensures ∙ c.in-Some.is) c.places.result w.result
     w.new.words w.new.cost w.new.path w.new.kept (sym c.leaves.ensures ∙ c.if-leaves.false) c.places.ensures w.ensures
 
 pub way-mark-price-requires : goal.way-mark-price-requires
@@ -160,30 +160,25 @@ pub ways-costs-old-requires : goal.ways-costs-old-requires
 ways-costs-old-requires t c =
     λ w l. omega (arith, c.requires.ready.safe.table, (c.requires.six.each w l).0)
 
-pub ways-loop-w-init : goal.ways-loop-w-init
-ways-loop-w-init t c =
+pub ways-loop-p-init : goal.ways-loop-p-init
+ways-loop-p-init t c =
     trying_none c.requires.ready c.requires.six
 
 pub ways-way-tally-requires : goal.ways-way-tally-requires
 ways-way-tally-requires t c =
-    let so = c.loop-w.invariant in
-    let p = c.requires.six.each c.loop-w.w c.loop-w-test.true in
-    (omega (arith, so.fewer), (so.ready, p))
+    let so = c.loop-p.invariant in
+    (omega (arith, so.fewer), (so.ready, c.requires.six.each c.loop-p.p-index c.loop-p-test.true))
 
-pub ways-loop-w-smaller : goal.ways-loop-w-smaller
-ways-loop-w-smaller t c =
-    let so = c.loop-w.invariant in omega (arith, so.some, c.loop-w-test.true)
-
-pub ways-loop-w-preserved : goal.ways-loop-w-preserved
-ways-loop-w-preserved t c =
-    let so = c.loop-w.invariant in
+pub ways-loop-p-preserved : goal.ways-loop-p-preserved
+ways-loop-p-preserved t c =
+    let so = c.loop-p.invariant in
     let w = c.way-tally in
     trying_more c.requires.ready c.requires.six so w.new.words w.new.cost w.new.path w.new.kept w.result
-    c.loop-w-test.true w.auto.path w.auto.kept w.ensures
+    c.loop-p-test.true w.auto.path w.auto.kept w.ensures
 
 pub ways-restore-requires : goal.ways-restore-requires
 ways-restore-requires t c =
-    let so = c.loop-w.invariant in (
+    let so = c.loop-p.invariant in (
       c.costs-old.ensures.six,
       c.requires.six.many,
       λ w l. omega (arith, so.ready.safe.table, (c.requires.six.each w l).0),
@@ -191,6 +186,6 @@ ways-restore-requires t c =
 
 pub ways-returns : goal.ways-returns
 ways-returns t c =
-    let so = c.loop-w.invariant in
-    trying_end c.requires.ready c.requires.six so c.restore.new.cost c.loop-w-test.false
+    let so = c.loop-p.invariant in
+    trying_end c.requires.ready c.requires.six so c.restore.new.cost c.loop-p-test.false
     (c.restore.ensures c.args.cost.now c.costs-old.ensures so.apart)

@@ -3,13 +3,9 @@ use Rattle.search.specs.Memory.{open_pairs}
 use Rattle.search.proofs.WaysEnds.{Trying}
 use Rattle.search.proofs.tree.+node_way_ways.Given as goal
 
-abbrev pub invariant-ways-loop-w : goal.invariant-ways-loop-w
-invariant-ways-loop-w l =
-    Trying l.n l.prune l.most l.initial.words l.initial.cost l.initial.path l.initial.kept l.count l.spent l.places l.initial.tally l.words l.cost l.path l.kept l.tally l.w
-
-abbrev pub decreases-ways-loop-w : goal.decreases-ways-loop-w
-decreases-ways-loop-w l =
-    6 - l.w
+abbrev pub invariant-ways-loop-p : goal.invariant-ways-loop-p
+invariant-ways-loop-p l =
+    Trying l.n l.prune l.most l.initial.words l.initial.cost l.initial.path l.initial.kept l.count l.spent l.places l.initial.tally l.words l.cost l.path l.kept l.tally l.p-index
 
 abbrev pub decreases-node : goal.decreases-node
 decreases-node l =
