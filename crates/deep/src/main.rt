@@ -7,7 +7,11 @@ use search::Answer;
 use std::{array, io};
 
 // An engine as it is called on the matrices: the step limit, the list.
-fn dives<F: Fn(u32, &mut [u16]) -> Result<Answer, Refusal>>(rt: &impl Print, name: &str, engine: F) -> io::Result<()>
+fn dives<F: Fn(u32, &mut [u16]) -> Result<Answer, Refusal>>(
+    rt: &impl Print,
+    name: &str,
+    engine: F,
+) -> io::Result<()>
     requires { F.IsAlwaysCallable engine }
 {
     for most in [8001, 8400] {

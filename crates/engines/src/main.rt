@@ -64,9 +64,13 @@ fn show(rt: &impl Print, answer: Result<Answer, Refusal>) -> io::Result<()> {
     match answer {
         Ok(Answer::Stopped { steps }) => print!(rt; "answer 9 steps {steps}"),
         Ok(Answer::Nothing { steps }) => print!(rt; "answer 8 steps {steps}"),
-        Ok(Answer::Repaired { price, pairs, steps }) => {
-            print!(rt; "answer 0 cost {price} edits {pairs} steps {steps}")
-        }
+        Ok(
+            Answer::Repaired {
+                price,
+                pairs,
+                steps,
+            },
+        ) => { print!(rt; "answer 0 cost {price} edits {pairs} steps {steps}") }
         Err(refusal) => print!(rt; "{refusal}"),
     }
 }
