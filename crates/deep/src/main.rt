@@ -2,100 +2,64 @@
 // dive goes 8,000 nodes down, so with these step limits both engines stop at the bottom of it, on the ordinary stack.
 #![tactic(auto)]
 
+use graph::Refusal;
 use search::Answer;
-use std::io;
+use std::{array, io};
 
-fn number(rt: &impl Print, word: &[u8], x: u64) -> io::Result<()> {
-    rt.write_all(word)?;
-    rt.print(x)
+// An engine as it is called on the matrices: the step limit, the list.
+fn dives<F: Fn(u32, &mut [u16]) -> Result<Answer, Refusal>>(
+    rt: &impl Print,
+    name: &str,
+    engine: F,
+) -> io::Result<()>
+    requires { F.IsAlwaysCallable engine }
+{
+    for most in [8001, 8400] {
+        let mut list = [0u16; 8128];
+        let answer = engine(most, &mut list);
+        show(rt, name, answer)?;
+    }
+    Ok(())
 }
 
-fn show(rt: &impl Print, name: &[u8], r: Answer) -> io::Result<()> {
-    rt.write_all(name)?;
-    match r {
-        Answer::Refused {
-            number: k,
-            row: _,
-            column: _,
-        } => {
-            number(rt, b" answer ", k as u64)?;
-        }
-        Answer::Stopped { steps } => {
-            number(rt, b" answer 9 steps ", steps as u64)?;
-        }
-        Answer::Nothing { steps } => {
-            number(rt, b" answer 8 steps ", steps as u64)?;
-        }
-        Answer::Repaired {
-            price,
-            pairs: _,
-            steps,
-        } => {
-            number(rt, b" answer 0 cost ", price as u64)?;
-            number(rt, b" steps ", steps as u64)?;
-        }
+fn show(rt: &impl Print, name: &str, answer: Result<Answer, Refusal>) -> io::Result<()> {
+    print!(rt; "{name} answer ")?;
+    match answer {
+        Ok(Answer::Stopped { steps }) => println!(rt; "9 steps {steps}"),
+        Ok(Answer::Nothing { steps }) => println!(rt; "8 steps {steps}"),
+        Ok(Answer::Repaired { price, steps, .. }) => println!(rt; "0 cost {price} steps {steps}"),
+        Err(refusal) => println!(rt; "{}", refusal.number()),
     }
-    rt.write_all(b"\n")
-}
-
-fn distance(i: usize, j: usize) -> usize {
-    if i < j {
-        return j - i;
-    }
-    i - j
 }
 
 // Is {i, j} an edge? All pairs are but those two apart.
 fn joined(i: usize, j: usize) -> u8 {
-    let d = distance(i, j);
-    if d == 0 {
-        return 0;
+    match i.abs_diff(j) {
+        0 | 2 => 0,
+        _ => 1,
     }
-    if d == 2 {
-        return 0;
-    }
-    1
 }
 
 fn edges() -> [u8; 16384] {
-    let mut g = [0u8; 16384];
-    let mut x = 0;
-    while x < 16384 {
-        g[x] = joined(x / 128, x % 128);
-        x += 1;
-    }
-    g
+    array::from_fn(|x| joined(x / 128, x % 128))
 }
 
 fn ones() -> [u16; 16384] {
-    let mut prices = [1u16; 16384];
-    let mut i = 0;
-    while i < 128 {
-        prices[i * 129] = 0;
-        i += 1;
-    }
-    prices
-}
-
-fn plain(rt: &impl Print, most: u32) -> io::Result<()> {
-    let g = edges();
-    let prices = ones();
-    let mut list = [0u16; 8128];
-    let r = search::plain(128, &g, &prices, 81280000, most, &mut list);
-    show(rt, b"plain", r)
-}
-
-fn pruned(rt: &impl Print, most: u32) -> io::Result<()> {
-    let g = edges();
-    let prices = ones();
-    let mut list = [0u16; 8128];
-    let r = search::pruned(128, &g, &prices, 81280000, most, &mut list);
-    show(rt, b"pruned", r)
+    array::from_fn(|x| u16::from(x / 128 != x % 128))
 }
 
 fn main(rt: HostRuntime) -> io::Result<()> {
-    plain(&rt, 8001)?;
-    plain(&rt, 8400)?;
-    pruned(&rt, 8001)?;
-    pruned(&rt, 8400)
+    let g = edges();
+    let prices = ones();
+    let budget = 81_280_000;
+    dives(
+        &rt,
+        "plain",
+        |most, list| search::plain(128, &g, &prices, budget, most, list),
+    )?;
+    dives(
+        &rt,
+        "pruned",
+        |most, list| search::pruned(128, &g, &prices, budget, most, list),
+    )
 }

@@ -2,328 +2,247 @@
 // first, a line each: the answer, and how many entries of the lent list, all 999 before the call, are no longer 999.
 #![tactic(auto)]
 
+use graph::Refusal;
 use search::Answer;
-use std::io;
+use std::{array, io};
 
-fn text(rt: &impl Print, s: &[u8]) -> io::Result<()> {
-    rt.write_all(s)
-}
-
-fn number(rt: &impl Print, word: &[u8], x: u64) -> io::Result<()> {
-    text(rt, word)?;
-    rt.print(x)
-}
-
-fn refused(rt: &impl Print, k: u32, row: usize, column: usize) -> io::Result<()> {
-    number(rt, b" answer ", k as u64)?;
-    number(rt, b" place ", row as u64)?;
-    number(rt, b" ", column as u64)
-}
-
-fn repaired(rt: &impl Print, cost: u32, pairs: usize, steps: u32) -> io::Result<()> {
-    number(rt, b" answer 0 cost ", cost as u64)?;
-    number(rt, b" edits ", pairs as u64)?;
-    number(rt, b" steps ", steps as u64)
-}
-
-fn show(rt: &impl Print, r: Answer) -> io::Result<()> {
-    match r {
-        Answer::Refused {
-            number: k,
-            row,
-            column,
-        } => {
-            refused(rt, k, row, column)?;
-        }
-        Answer::Stopped { steps } => {
-            number(rt, b" answer 9 steps ", steps as u64)?;
-        }
-        Answer::Nothing { steps } => {
-            number(rt, b" answer 8 steps ", steps as u64)?;
-        }
-        Answer::Repaired {
-            price,
-            pairs,
-            steps,
-        } => {
-            repaired(rt, price, pairs, steps)?;
-        }
-    }
-    Ok(())
-}
-
-// The entries of a list that are no longer 999, which is no pair's number here.
-fn entries(rt: &impl Print, list: &[u16]) -> io::Result<()> {
-    text(rt, b" list")?;
-    let mut i = 0;
-    while i < list.len() {
-        entry(rt, list[i])?;
-        i += 1;
-    }
-    Ok(())
-}
-
-fn entry(rt: &impl Print, x: u16) -> io::Result<()> {
-    if x != 999 {
-        number(rt, b" ", x as u64)?;
-    }
-    Ok(())
-}
-
-// A question to both engines; the first `room` of 40 entries are lent.
-fn plain(
-    rt: &impl Print,
+// A question to the engines: n, the matrices, the budget k, the step limit L, and how many of the list's 40 entries are lent.
+#[derive(Clone, Copy, Drop)]
+struct Question<'a> {
     n: usize,
-    g: &[u8],
-    prices: &[u16],
-    k: u32,
-    most: u32,
-    list: &mut [u16],
-    room: usize,
-) -> io::Result<()> {
-    if room <= list.len() {
-        let r = search::plain(n, g, prices, k, most, &mut list[..room]);
-        text(rt, b"  plain")?;
-        show(rt, r)?;
-        entries(rt, list)?;
-        text(rt, b"\n")?;
-    }
-    Ok(())
-}
-
-fn pruned(
-    rt: &impl Print,
-    n: usize,
-    g: &[u8],
-    prices: &[u16],
-    k: u32,
-    most: u32,
-    list: &mut [u16],
-    room: usize,
-) -> io::Result<()> {
-    if room <= list.len() {
-        let r = search::pruned(n, g, prices, k, most, &mut list[..room]);
-        text(rt, b"  pruned")?;
-        show(rt, r)?;
-        entries(rt, list)?;
-        text(rt, b"\n")?;
-    }
-    Ok(())
-}
-
-fn bound(rt: &impl Print, n: usize, g: &[u8], prices: &[u16]) -> io::Result<()> {
-    text(rt, b"  bound")?;
-    let r = bound::bound(n, g, prices);
-    match r {
-        bound::Answer::Refused {
-            number: k,
-            row,
-            column,
-        } => {
-            refused(rt, k, row, column)?;
-        }
-        bound::Answer::Bounded { bound: b } => {
-            number(rt, b" ", b as u64)?;
-        }
-    }
-    text(rt, b"\n")
-}
-
-fn asked(
-    rt: &impl Print,
-    name: &[u8],
-    n: usize,
-    g: &[u8],
-    prices: &[u16],
+    graph: &'a [u8],
+    prices: &'a [u16],
     k: u32,
     most: u32,
     room: usize,
-) -> io::Result<()> {
-    text(rt, name)?;
-    text(rt, b"\n")?;
-    let mut first = [999u16; 40];
-    plain(rt, n, g, prices, k, most, &mut first, room)?;
-    let mut second = [999u16; 40];
-    pruned(rt, n, g, prices, k, most, &mut second, room)?;
-    bound(rt, n, g, prices)
 }
 
-// n = 4: the path, the cycle, and prices.
-fn path() -> [u8; 16] {
-    [0, 1, 0, 0, 1, 0, 1, 0, 0, 1, 0, 1, 0, 0, 1, 0]
+impl<'a> Question<'a> {
+    fn ask<F: Fn(usize, &[u8], &[u16], u32, u32, &mut [u16]) -> Result<Answer, Refusal>>(
+        &self,
+        rt: &impl Print,
+        name: &str,
+        engine: F,
+    ) -> io::Result<()>
+        requires { F.IsAlwaysCallable engine }
+    {
+        let mut list = [999u16; 40];
+        let answer = engine(
+            self.n,
+            self.graph,
+            self.prices,
+            self.k,
+            self.most,
+            &mut list[..self.room.min(40)],
+        );
+        print!(rt; "  {name} ")?;
+        show(rt, answer)?;
+        print!(rt; " list")?;
+        for x in list.iter().filter(|x| **x != 999) {
+            print!(rt; " {x}")?;
+        }
+        println!(rt)
+    }
+
+    fn bound(&self, rt: &impl Print) -> io::Result<()> {
+        match bound::bound(self.n, self.graph, self.prices) {
+            Ok(bound) => println!(rt; "  bound {bound}"),
+            Err(refusal) => println!(rt; "  bound {refusal}"),
+        }
+    }
+
+    // The same question to both engines, and to the bound.
+    fn asked(&self, rt: &impl Print, name: &str) -> io::Result<()> {
+        println!(rt; "{name}")?;
+        self.ask(rt, "plain", search::plain)?;
+        self.ask(rt, "pruned", search::pruned)?;
+        self.bound(rt)
+    }
 }
 
-fn ones() -> [u16; 16] {
-    [0, 1, 1, 1, 1, 0, 1, 1, 1, 1, 0, 1, 1, 1, 1, 0]
+fn show(rt: &impl Print, answer: Result<Answer, Refusal>) -> io::Result<()> {
+    match answer {
+        Ok(Answer::Stopped { steps }) => print!(rt; "answer 9 steps {steps}"),
+        Ok(Answer::Nothing { steps }) => print!(rt; "answer 8 steps {steps}"),
+        Ok(
+            Answer::Repaired {
+                price,
+                pairs,
+                steps,
+            },
+        ) => { print!(rt; "answer 0 cost {price} edits {pairs} steps {steps}") }
+        Err(refusal) => print!(rt; "{refusal}"),
+    }
 }
 
-fn budgets(rt: &impl Print, g: &[u8], p: &[u16]) -> io::Result<()> {
-    asked(rt, b"path, prices 1, k = 0", 4, g, p, 0, 1000, 6)?;
-    asked(rt, b"path, prices 1, k = 1", 4, g, p, 1, 1000, 6)?;
-    asked(
-        rt,
-        b"path, prices 1, k = 81,280,000, room for more",
-        4,
-        g,
-        p,
-        81280000,
-        1000,
-        40,
-    )
+// n = 4: the path, and prices 1.
+const PATH: [u8; 16] = [0, 1, 0, 0, 1, 0, 1, 0, 0, 1, 0, 1, 0, 0, 1, 0];
+
+const ONES: [u16; 16] = [0, 1, 1, 1, 1, 0, 1, 1, 1, 1, 0, 1, 1, 1, 1, 0];
+
+fn figures(rt: &impl Print, path: Question<'_>) -> io::Result<()> {
+    let cycle = [0, 1, 0, 1, 1, 0, 1, 0, 0, 1, 0, 1, 1, 0, 1, 0];
+    let priced = [0, 5, 3, 1, 5, 0, 4, 3, 3, 4, 0, 5, 1, 3, 5, 0];
+    let x = 65535;
+    let fixed = [0, x, x, 1, x, 0, x, x, x, x, 0, x, 1, x, x, 0];
+    for (name, question) in [
+        ("path, prices 1, k = 0", Question { k: 0, ..path }),
+        ("path, prices 1, k = 1", path),
+        (
+            "path, prices 1, k = 81,280,000, room for more",
+            Question {
+                k: 81280000,
+                room: 40,
+                ..path
+            },
+        ),
+        ("path, prices 1, k = 1, L = 6", Question { most: 6, ..path }),
+        ("path, prices 1, k = 1, L = 7", Question { most: 7, ..path }),
+        ("path, prices 1, k = 1, L = 0", Question { most: 0, ..path }),
+        (
+            "path, prices 1, k = 1, L = 4,294,967,295",
+            Question {
+                most: 4294967295,
+                ..path
+            },
+        ),
+        (
+            "cycle, prices 1, k = 1",
+            Question {
+                graph: &cycle,
+                ..path
+            },
+        ),
+        (
+            "path, prices 5, 3, 1, 4, 3, 5, k = 10",
+            Question {
+                prices: &priced,
+                k: 10,
+                ..path
+            },
+        ),
+        (
+            "path, all fixed but (0,3) at 1, k = 10",
+            Question {
+                prices: &fixed,
+                k: 10,
+                ..path
+            },
+        ),
+    ] {
+        question.asked(rt, name)?;
+    }
+    Ok(())
 }
 
-fn limits(rt: &impl Print, g: &[u8], p: &[u16]) -> io::Result<()> {
-    asked(rt, b"path, prices 1, k = 1, L = 6", 4, g, p, 1, 6, 6)?;
-    asked(rt, b"path, prices 1, k = 1, L = 7", 4, g, p, 1, 7, 6)?;
-    asked(rt, b"path, prices 1, k = 1, L = 0", 4, g, p, 1, 0, 6)?;
-    asked(
-        rt,
-        b"path, prices 1, k = 1, L = 4,294,967,295",
-        4,
-        g,
-        p,
-        1,
-        4294967295,
-        6,
-    )
-}
-
-fn cycle(rt: &impl Print, p: &[u16]) -> io::Result<()> {
-    let g = [0u8, 1, 0, 1, 1, 0, 1, 0, 0, 1, 0, 1, 1, 0, 1, 0];
-    asked(rt, b"cycle, prices 1, k = 1", 4, &g, p, 1, 1000, 6)
-}
-
-fn priced(rt: &impl Print, g: &[u8]) -> io::Result<()> {
-    let p = [0u16, 5, 3, 1, 5, 0, 4, 3, 3, 4, 0, 5, 1, 3, 5, 0];
-    asked(
-        rt,
-        b"path, prices 5, 3, 1, 4, 3, 5, k = 10",
-        4,
-        g,
-        &p,
-        10,
-        1000,
-        6,
-    )
-}
-
-fn fixed(rt: &impl Print, g: &[u8]) -> io::Result<()> {
-    let p = [
-        0u16, 65535, 65535, 1, 65535, 0, 65535, 65535, 65535, 65535, 0, 65535, 1, 65535, 65535, 0,
-    ];
-    asked(
-        rt,
-        b"path, all fixed but (0,3) at 1, k = 10",
-        4,
-        g,
-        &p,
-        10,
-        1000,
-        6,
-    )
+// Two paths of 4 vertices: i and i + 1 are joined, but not across.
+fn joined(i: usize, j: usize) -> bool {
+    i / 4 == j / 4 && i.abs_diff(j) == 1
 }
 
 fn two(rt: &impl Print) -> io::Result<()> {
-    let mut g = [0u8; 64];
-    g[1] = 1;
-    g[8] = 1;
-    g[10] = 1;
-    g[17] = 1;
-    g[19] = 1;
-    g[26] = 1;
-    g[37] = 1;
-    g[44] = 1;
-    g[46] = 1;
-    g[53] = 1;
-    g[55] = 1;
-    g[62] = 1;
-    let mut p = [1u16; 64];
-    p[0] = 0;
-    p[9] = 0;
-    p[18] = 0;
-    p[27] = 0;
-    p[36] = 0;
-    p[45] = 0;
-    p[54] = 0;
-    p[63] = 0;
-    asked(rt, b"two paths, prices 1, k = 1", 8, &g, &p, 1, 1000, 28)?;
-    asked(rt, b"two paths, prices 1, k = 2", 8, &g, &p, 2, 1000, 28)
+    let graph: [u8; 64] = array::from_fn(|x| u8::from(joined(x / 8, x % 8)));
+    let prices: [u16; 64] = array::from_fn(|x| u16::from(x / 8 != x % 8));
+    let question = Question {
+        n: 8,
+        graph: &graph,
+        prices: &prices,
+        k: 1,
+        most: 1000,
+        room: 28,
+    };
+    question.asked(rt, "two paths, prices 1, k = 1")?;
+    Question { k: 2, ..question }.asked(rt, "two paths, prices 1, k = 2")
 }
 
-fn empty(rt: &impl Print, g: &[u8], p: &[u16]) -> io::Result<()> {
-    asked(rt, b"n = 0", 0, &g[..0], &p[..0], 0, 1000, 0)
-}
-
-fn lengths(rt: &impl Print, g: &[u8], p: &[u16]) -> io::Result<()> {
-    asked(rt, b"n = 129", 129, g, p, 1, 1000, 6)?;
-    asked(
-        rt,
-        b"n = 3, with the matrices of n = 4",
-        3,
-        g,
-        p,
-        1,
-        1000,
-        6,
-    )?;
-    asked(rt, b"k = 81,280,001", 4, g, p, 81280001, 1000, 6)?;
-    asked(rt, b"list one short", 4, g, p, 1, 1000, 5)
-}
-
-fn single(rt: &impl Print) -> io::Result<()> {
-    let g = [0u8; 1];
-    let p = [0u16; 1];
-    empty(rt, &g, &p)?;
-    asked(rt, b"n = 1", 1, &g, &p, 0, 1000, 0)
-}
-
-fn fewer(rt: &impl Print, g: &[u8]) -> io::Result<()> {
-    let p = [1u16; 15];
-    asked(rt, b"prices one short", 4, g, &p, 1, 1000, 6)
-}
-
-fn lopsided(rt: &impl Print, p: &[u16]) -> io::Result<()> {
-    let g = [0u8, 1, 0, 0, 0, 0, 1, 0, 0, 1, 0, 1, 0, 0, 1, 0];
-    asked(rt, b"lopsided graph", 4, &g, p, 1, 1000, 6)
-}
-
-fn dear(rt: &impl Print, g: &[u8]) -> io::Result<()> {
-    let p = [0u16, 1, 1, 1, 1, 0, 1, 1, 1, 1, 0, 10001, 1, 1, 10001, 0];
-    asked(rt, b"price 10,001 at (2, 3)", 4, g, &p, 1, 1000, 6)
-}
-
-fn free(rt: &impl Print, g: &[u8]) -> io::Result<()> {
-    let p = [0u16, 1, 1, 0, 1, 0, 1, 1, 1, 1, 0, 1, 0, 1, 1, 0];
-    asked(rt, b"price 0 at (0, 3)", 4, g, &p, 1, 1000, 6)
-}
-
-fn turned(rt: &impl Print, g: &[u8]) -> io::Result<()> {
-    let p = [0u16, 1, 1, 1, 2, 0, 1, 1, 1, 1, 0, 1, 1, 1, 1, 0];
-    asked(rt, b"lopsided prices", 4, g, &p, 1, 1000, 6)
-}
-
-fn figures(rt: &impl Print, g: &[u8], p: &[u16]) -> io::Result<()> {
-    budgets(rt, g, p)?;
-    limits(rt, g, p)?;
-    cycle(rt, p)?;
-    priced(rt, g)?;
-    fixed(rt, g)?;
-    two(rt)
-}
-
-fn refusals(rt: &impl Print, g: &[u8], p: &[u16]) -> io::Result<()> {
-    single(rt)?;
-    lengths(rt, g, p)?;
-    fewer(rt, g)?;
-    lopsided(rt, p)?;
-    dear(rt, g)?;
-    free(rt, g)?;
-    turned(rt, g)
+fn refusals(rt: &impl Print, path: Question<'_>) -> io::Result<()> {
+    let empty = Question {
+        n: 0,
+        graph: &[],
+        prices: &[],
+        k: 0,
+        room: 0,
+        ..path
+    };
+    let single = Question {
+        n: 1,
+        graph: &[0],
+        prices: &[0],
+        k: 0,
+        room: 0,
+        ..path
+    };
+    let lopsided = [0, 1, 0, 0, 0, 0, 1, 0, 0, 1, 0, 1, 0, 0, 1, 0];
+    let dear = [0, 1, 1, 1, 1, 0, 1, 1, 1, 1, 0, 10001, 1, 1, 10001, 0];
+    let free = [0, 1, 1, 0, 1, 0, 1, 1, 1, 1, 0, 1, 0, 1, 1, 0];
+    let turned = [0, 1, 1, 1, 2, 0, 1, 1, 1, 1, 0, 1, 1, 1, 1, 0];
+    for (name, question) in [
+        ("n = 0", empty),
+        ("n = 1", single),
+        ("n = 129", Question { n: 129, ..path }),
+        (
+            "n = 3, with the matrices of n = 4",
+            Question { n: 3, ..path },
+        ),
+        (
+            "k = 81,280,001",
+            Question {
+                k: 81280001,
+                ..path
+            },
+        ),
+        ("list one short", Question { room: 5, ..path }),
+        (
+            "prices one short",
+            Question {
+                prices: &[1; 15],
+                ..path
+            },
+        ),
+        (
+            "lopsided graph",
+            Question {
+                graph: &lopsided,
+                ..path
+            },
+        ),
+        (
+            "price 10,001 at (2, 3)",
+            Question {
+                prices: &dear,
+                ..path
+            },
+        ),
+        (
+            "price 0 at (0, 3)",
+            Question {
+                prices: &free,
+                ..path
+            },
+        ),
+        (
+            "lopsided prices",
+            Question {
+                prices: &turned,
+                ..path
+            },
+        ),
+    ] {
+        question.asked(rt, name)?;
+    }
+    Ok(())
 }
 
 fn main(rt: HostRuntime) -> io::Result<()> {
-    let g = path();
-    let p = ones();
-    figures(&rt, &g, &p)?;
-    refusals(&rt, &g, &p)
+    let path = Question {
+        n: 4,
+        graph: &PATH,
+        prices: &ONES,
+        k: 1,
+        most: 1000,
+        room: 6,
+    };
+    figures(&rt, path)?;
+    two(&rt)?;
+    refusals(&rt, path)
 }

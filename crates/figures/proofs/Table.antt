@@ -7,8 +7,8 @@ use Prim.Native.Nat.{ℕ}
 use lib.Dec.{eqb}
 use Rattle.bits.specs.Choice.{count}
 use Rattle.bits.proofs.Truth.{and_in, and_left, and_right}
-use Rattle.graph.specs.declared.First.{First}
-use Rattle.graph.specs.declared.First.TheVariants.{At, Clear}
+use Rattle.std.specs.Prelude.{Option, None, Some}
+use Rattle.graph.specs.declared.Quad.{Quad}
 use Rattle.graph.specs.Each.{each, only}
 use Rattle.graph.specs.Quad.{quads, first, is_quad, named}
 use Rattle.repair.proofs.Figures as searches
@@ -26,13 +26,13 @@ equal [] (y ∷ ys) = false
 equal (x ∷ xs) [] = false
 equal (x ∷ xs) (y ∷ ys) = eqb x y && equal xs ys
 
-is_at : First → List ℕ → Bool
-is_at Clear q = false
-is_at (At p) q = equal (p.a ∷ p.b ∷ p.c ∷ p.d ∷ []) q
+is_at : Option Quad → List ℕ → Bool
+is_at None q = false
+is_at (Some p) q = equal (p.a ∷ p.b ∷ p.c ∷ p.d ∷ []) q
 
-is_clear : First → Bool
-is_clear Clear = true
-is_clear (At p) = false
+is_clear : Option Quad → Bool
+is_clear None = true
+is_clear (Some p) = false
 
 -- a row: a clean graph with its parents; a graph with its first quad; a search or a bound with what it gives; a score, a
 -- refusal or a sheet with what is in it

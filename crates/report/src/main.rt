@@ -4,7 +4,6 @@
 
 ghost use Rattle.std.specs.Prelude.{◌≤◌, length, IfOk};
 
-use lines::Answer;
 use std::io;
 use std::io::Read;
 
@@ -13,12 +12,12 @@ fn read_full(input: &mut impl Read, sheet: &mut [u8]) -> io::Result<usize>
     ensures { IfOk result (λ n. n ≤ length sheet.new) }
 {
     let mut got = 0;
+    // Not `for` or a chain: a read puts as many bytes as there are, and `read_exact` does not say how many it put.
     while got < sheet.len() {
-        let n = input.read(&mut sheet[got..])?;
-        if n == 0 {
-            break;
+        match input.read(&mut sheet[got..])? {
+            0 => break,
+            n => got += n,
         }
-        got += n;
     }
     Ok(got)
 }
@@ -27,7 +26,7 @@ fn main(rt: HostRuntime) -> io::Result<()> {
     let mut sheet = [0u8; 49033];
     let got = read_full(&mut rt.stdin(), &mut sheet)?;
     let mut text = [0u8; 131072];
-    let Answer::Written { size } = lines::report(&sheet[..got], &mut text) else {
+    let Ok(size) = lines::report(&sheet[..got], &mut text) else {
         return Ok(());
     };
     rt.write_all(&text[..size])

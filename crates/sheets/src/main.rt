@@ -1,267 +1,199 @@
 // Tries scores and sheets as a new user would: one line for each input, with what came of it.
 #![tactic(auto)]
 
-use graph::Finding;
-use scores::{Reading, Writing};
+use graph::Refusal;
+use scores::Trailer;
 use std::io;
 
-fn text(rt: &impl Print, s: &[u8]) -> io::Result<()> {
-    rt.write_all(s)
-}
-
-fn refused(rt: &impl Print, number: u32, row: usize, column: usize) -> io::Result<()> {
-    text(rt, b" answer ")?;
-    rt.print(number as u64)?;
-    text(rt, b" place ")?;
-    rt.print(row as u64)?;
-    text(rt, b" ")?;
-    rt.print(column as u64)?;
-    text(rt, b"\n")
-}
-
-fn found(rt: &impl Print, name: &[u8], f: Finding) -> io::Result<()> {
-    text(rt, name)?;
-    match f {
-        Finding::Fine => text(rt, b" done\n"),
-        Finding::Fault {
-            number,
-            row,
-            column,
-        } => refused(rt, number, row, column),
+fn drawing(rt: &impl Print, name: &str, drawn: Result<(), Refusal>) -> io::Result<()> {
+    match drawn {
+        Ok(()) => println!(rt; "{name} done"),
+        Err(refusal) => println!(rt; "{name} {refusal}"),
     }
 }
 
-fn reading(rt: &impl Print, name: &[u8], r: Reading) -> io::Result<()> {
-    text(rt, name)?;
-    match r {
-        Reading::Sheet { p, n, t: _ } => {
-            text(rt, b" notes ")?;
-            rt.print(p as u64)?;
-            text(rt, b" vertices ")?;
-            rt.print(n as u64)?;
-            text(rt, b"\n")
-        }
-        Reading::Refused {
-            number,
-            row,
-            column,
-        } => refused(rt, number, row, column),
+fn reading(rt: &impl Print, name: &str, read: Result<Trailer, Refusal>) -> io::Result<()> {
+    match read {
+        Ok(Trailer { p, n, .. }) => println!(rt; "{name} notes {p} vertices {n}"),
+        Err(refusal) => println!(rt; "{name} {refusal}"),
     }
 }
 
-fn writing(rt: &impl Print, name: &[u8], w: Writing) -> io::Result<()> {
-    text(rt, name)?;
-    match w {
-        Writing::Written { size } => {
-            text(rt, b" length ")?;
-            rt.print(size as u64)?;
-            text(rt, b"\n")
-        }
-        Writing::Refused {
-            number,
-            row,
-            column,
-        } => refused(rt, number, row, column),
+fn writing(rt: &impl Print, name: &str, written: Result<usize, Refusal>) -> io::Result<()> {
+    match written {
+        Ok(size) => println!(rt; "{name} length {size}"),
+        Err(refusal) => println!(rt; "{name} {refusal}"),
     }
 }
 
 // Each call with a little room of its own.
-fn draw(rt: &impl Print, name: &[u8], n: usize, t: i16, list: &[i16]) -> io::Result<()> {
-    let mut graph = [0u8; 4];
-    let mut prices = [0u16; 4];
-    found(
+fn draw(rt: &impl Print, name: &str, n: usize, t: i16, list: &[i16]) -> io::Result<()> {
+    drawing(
         rt,
         name,
-        scores::to_graph(n, t, list, &mut graph, &mut prices),
+        scores::to_graph(n, t, list, &mut [0; 4], &mut [0; 4]),
     )
 }
 
-fn read(rt: &impl Print, name: &[u8], sheet: &[u8]) -> io::Result<()> {
-    let mut list = [0i16; 1];
-    reading(rt, name, scores::read(sheet, &mut list))
+fn read(rt: &impl Print, name: &str, sheet: &[u8]) -> io::Result<()> {
+    reading(rt, name, scores::read(sheet, &mut [0; 1]))
 }
 
 fn write(
     rt: &impl Print,
-    name: &[u8],
+    name: &str,
     notes: &[u8],
     list: &[i16],
     n: usize,
     t: i16,
 ) -> io::Result<()> {
-    let mut buf = [0u8; 12];
-    writing(rt, name, scores::write(notes, list, n, t, &mut buf))
+    writing(rt, name, scores::write(notes, list, n, t, &mut [0; 12]))
 }
 
 // Scores to graph: few vertices, and the scale's ends.
 fn graphs(rt: &impl Print) -> io::Result<()> {
-    draw(rt, b"graph of 0", 0, 0, &[0i16; 0])?;
-    draw(rt, b"graph of 1", 1, 0, &[0i16; 0])?;
-    draw(rt, b"graph of 2, a tie", 2, 100, &[100])?;
-    draw(rt, b"graph of 2, no score", 2, 100, &[0i16; 0])
-}
-
-fn scales(rt: &impl Print) -> io::Result<()> {
-    draw(rt, b"threshold 5001", 2, 5001, &[100])?;
-    draw(rt, b"threshold -5001", 2, -5001, &[100])?;
-    draw(rt, b"threshold -32768", 2, -32768, &[100])?;
-    draw(rt, b"score 5001", 2, 0, &[5001])
+    let graphs: [(&str, usize, i16, &[i16]); 8] = [
+        ("graph of 0", 0, 0, &[]),
+        ("graph of 1", 1, 0, &[]),
+        ("graph of 2, a tie", 2, 100, &[100]),
+        ("graph of 2, no score", 2, 100, &[]),
+        ("threshold 5001", 2, 5001, &[100]),
+        ("threshold -5001", 2, -5001, &[100]),
+        ("threshold -32768", 2, -32768, &[100]),
+        ("score 5001", 2, 0, &[5001]),
+    ];
+    for (name, n, t, list) in graphs {
+        draw(rt, name, n, t, list)?;
+    }
+    Ok(())
 }
 
 // The room for both matrices.
-fn short_graph(rt: &impl Print) -> io::Result<()> {
-    let mut graph = [0u8; 3];
-    let mut prices = [0u16; 4];
-    found(
-        rt,
-        b"graph one short",
-        scores::to_graph(2, 100, &[100], &mut graph, &mut prices),
-    )
-}
-
-fn short_prices(rt: &impl Print) -> io::Result<()> {
-    let mut graph = [0u8; 4];
-    let mut prices = [0u16; 3];
-    found(
-        rt,
-        b"prices one short",
-        scores::to_graph(2, 100, &[100], &mut graph, &mut prices),
-    )
+fn short(rt: &impl Print) -> io::Result<()> {
+    let graph = scores::to_graph(2, 100, &[100], &mut [0; 3], &mut [0; 4]);
+    drawing(rt, "graph one short", graph)?;
+    let prices = scores::to_graph(2, 100, &[100], &mut [0; 4], &mut [0; 3]);
+    drawing(rt, "prices one short", prices)
 }
 
 // The greatest number of vertices, and one more.
-fn most(rt: &impl Print, name: &[u8], n: usize) -> io::Result<()> {
-    let all = [0i16; 8128];
-    let mut graph = [0u8; 16384];
-    let mut prices = [0u16; 16384];
-    found(
-        rt,
-        name,
-        scores::to_graph(n, 0, &all, &mut graph, &mut prices),
-    )
+fn most(rt: &impl Print) -> io::Result<()> {
+    for (name, n) in [("graph of 128", 128), ("graph of 129", 129)] {
+        drawing(rt, name, scores::to_graph(n, 0, &[0; 8128], &mut [0; 16384], &mut [0; 16384]))?;
+    }
+    Ok(())
 }
 
 // The example of document 01: read, its notes shown, and written again.
 fn example(rt: &impl Print) -> io::Result<()> {
     let sheet = b"ab\x2c\x01\x02\x00\x00\x00\x02\x00\x64\x00";
-    let mut list = [0i16; 1];
-    reading(rt, b"example", scores::read(sheet, &mut list))?;
-    text(rt, scores::notes(sheet))?;
-    text(rt, b" are its notes\n")?;
-    let mut buf = [0u8; 12];
+    let mut list = [0; 1];
+    reading(rt, "example", scores::read(sheet, &mut list))?;
+    rt.write_all(scores::notes(sheet))?;
+    println!(rt; " are its notes")?;
+    let mut buf = [0; 12];
     writing(
         rt,
-        b"example again",
+        "example again",
         scores::write(b"ab", &list, 2, 100, &mut buf),
     )?;
-    text(rt, &buf)?;
-    text(rt, b"\n")
+    rt.write_all(&buf)?;
+    println!(rt)
 }
 
 // Room, and a byte less and a byte more.
 fn neighbours(rt: &impl Print) -> io::Result<()> {
-    let mut none = [0i16; 0];
-    reading(
-        rt,
-        b"example, list one short",
-        scores::read(b"ab\x2c\x01\x02\x00\x00\x00\x02\x00\x64\x00", &mut none),
-    )?;
-    write(rt, b"buffer one short", b"abc", &[300], 2, 100)?;
+    let sheet = b"ab\x2c\x01\x02\x00\x00\x00\x02\x00\x64\x00";
+    reading(rt, "example, list one short", scores::read(sheet, &mut []))?;
+    write(rt, "buffer one short", b"abc", &[300], 2, 100)?;
     read(
         rt,
-        b"one byte too few",
+        "one byte too few",
         b"b\x2c\x01\x02\x00\x00\x00\x02\x00\x64\x00",
     )?;
     read(
         rt,
-        b"one byte too many",
+        "one byte too many",
         b"abc\x2c\x01\x02\x00\x00\x00\x02\x00\x64\x00",
     )
 }
 
 // Sheets of 7 and 8 bytes, and trailers that are refused.
 fn trailers(rt: &impl Print) -> io::Result<()> {
-    read(rt, b"7 bytes", b"\x00\x00\x00\x00\x00\x00\x00")?;
-    read(rt, b"8 bytes", b"\x00\x00\x00\x00\x00\x00\x00\x00")?;
-    read(rt, b"n = 1", b"\x00\x00\x00\x00\x01\x00\x00\x00")?;
-    read(rt, b"n = 129", b"\x00\x00\x00\x00\x81\x00\x00\x00")?;
-    read(
-        rt,
-        b"n = 129, p too large",
-        b"\x01\x80\x00\x00\x81\x00\x00\x00",
-    )
-}
-
-fn thresholds(rt: &impl Print) -> io::Result<()> {
-    read(rt, b"t = 5001", b"\x00\x00\x00\x00\x00\x00\x89\x13")?;
-    read(rt, b"t = -5001", b"\x00\x00\x00\x00\x00\x00\x77\xec")?;
-    read(rt, b"t = -32768", b"\x00\x00\x00\x00\x00\x00\x00\x80")?;
-    read(
-        rt,
-        b"t = -32768, too long",
-        b"\x00\x00\x00\x00\x00\x00\x00\x00\x80",
-    )?;
-    text(rt, scores::notes(b"note\x04\x00\x00\x00\x00\x00\x89\x13"))?;
-    text(rt, b" are the notes of a refused sheet\n")
+    let sheets: [(&str, &[u8]); 9] = [
+        ("7 bytes", &[0; 7]),
+        ("8 bytes", &[0; 8]),
+        ("n = 1", b"\x00\x00\x00\x00\x01\x00\x00\x00"),
+        ("n = 129", b"\x00\x00\x00\x00\x81\x00\x00\x00"),
+        ("n = 129, p too large", b"\x01\x80\x00\x00\x81\x00\x00\x00"),
+        ("t = 5001", b"\x00\x00\x00\x00\x00\x00\x89\x13"),
+        ("t = -5001", b"\x00\x00\x00\x00\x00\x00\x77\xec"),
+        ("t = -32768", b"\x00\x00\x00\x00\x00\x00\x00\x80"),
+        (
+            "t = -32768, too long",
+            b"\x00\x00\x00\x00\x00\x00\x00\x00\x80",
+        ),
+    ];
+    for (name, sheet) in sheets {
+        read(rt, name, sheet)?;
+    }
+    rt.write_all(scores::notes(b"note\x04\x00\x00\x00\x00\x00\x89\x13"))?;
+    println!(rt; " are the notes of a refused sheet")
 }
 
 // Notes of 32,768 bytes and one more.
 fn longest(rt: &impl Print) -> io::Result<()> {
-    let notes = [0u8; 32768];
-    let mut buf = [0u8; 32776];
-    let mut list = [0i16; 0];
+    let mut buf = [0; 32776];
     writing(
         rt,
-        b"notes of 32768",
-        scores::write(&notes, &[0i16; 0], 1, -5000, &mut buf),
+        "notes of 32768",
+        scores::write(&[0; 32768], &[], 1, -5000, &mut buf),
     )?;
-    reading(rt, b"notes of 32768", scores::read(&buf, &mut list))
+    reading(rt, "notes of 32768", scores::read(&buf, &mut []))
 }
 
 fn longer(rt: &impl Print) -> io::Result<()> {
-    let notes = [0u8; 32769];
-    write(rt, b"notes of 32769", &notes, &[0i16; 0], 0, 0)?;
-    let mut sheet = [0u8; 32777];
-    sheet[32769] = 1;
-    sheet[32770] = 128;
-    read(rt, b"notes of 32769", &sheet)
+    write(rt, "notes of 32769", &[0; 32769], &[], 0, 0)?;
+    let mut sheet = [0; 32777];
+    [sheet[32769], sheet[32770]] = 32769u16.to_le_bytes();
+    read(rt, "notes of 32769", &sheet)
 }
 
 // What the writer refuses.
 fn writers(rt: &impl Print) -> io::Result<()> {
-    write(rt, b"n = 129", b"", &[0i16; 0], 129, 0)?;
-    write(rt, b"n = 2, no score", b"", &[0i16; 0], 2, 0)?;
-    write(rt, b"score 5001", b"", &[5001], 2, 0)?;
-    write(rt, b"threshold 5001", b"", &[0i16; 0], 0, 5001)?;
-    write(rt, b"threshold -5001", b"", &[0i16; 0], 0, -5001)
+    let sheets: [(&str, &[i16], usize, i16); 5] = [
+        ("n = 129", &[], 129, 0),
+        ("n = 2, no score", &[], 2, 0),
+        ("score 5001", &[5001], 2, 0),
+        ("threshold 5001", &[], 0, 5001),
+        ("threshold -5001", &[], 0, -5001),
+    ];
+    for (name, list, n, t) in sheets {
+        write(rt, name, b"", list, n, t)?;
+    }
+    Ok(())
 }
 
 // The sheet of most scores, and its last score off the scale.
 fn fullest(rt: &impl Print) -> io::Result<()> {
-    let all = [5000i16; 8128];
-    let mut list = [0i16; 8128];
-    let mut buf = [0u8; 16264];
+    let mut buf = [0; 16264];
     writing(
         rt,
-        b"n = 128",
-        scores::write(b"", &all, 128, -5000, &mut buf),
+        "n = 128",
+        scores::write(b"", &[5000; 8128], 128, -5000, &mut buf),
     )?;
-    reading(rt, b"n = 128", scores::read(&buf, &mut list))?;
+    reading(rt, "n = 128", scores::read(&buf, &mut [0; 8128]))?;
     buf[16255] = 20;
-    read(rt, b"the last score 5256", &buf)
+    read(rt, "the last score 5256", &buf)
 }
 
 fn main(rt: HostRuntime) -> io::Result<()> {
     graphs(&rt)?;
-    scales(&rt)?;
-    short_graph(&rt)?;
-    short_prices(&rt)?;
-    most(&rt, b"graph of 128", 128)?;
-    most(&rt, b"graph of 129", 129)?;
+    short(&rt)?;
+    most(&rt)?;
     example(&rt)?;
     neighbours(&rt)?;
     trailers(&rt)?;
-    thresholds(&rt)?;
     longest(&rt)?;
     longer(&rt)?;
     writers(&rt)?;
