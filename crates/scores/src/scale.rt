@@ -5,7 +5,7 @@ ghost use Rattle.graph.specs.Check.{too_many};
 ghost use Rattle.scores.specs.Scale.{on_scale, edge_of, price_of, half, earlier, spot, threshold_off, scores_off};
 ghost use Rattle.scores.specs.Drawing.{wrong_count};
 
-use graph::Finding;
+use graph::Refusal;
 
 // "Scores and threshold t lie in -5,000 to 5,000."
 pub fn on_scale(s: i16) -> bool
@@ -56,59 +56,35 @@ pub fn spot_of(n: usize, i: usize, j: usize) -> usize
     earlier_of(n, i.min(j)) + i.abs_diff(j) - 1
 }
 
-// The first score off the scale, row by row, with its pair; `score` gives the score at a place.
-pub fn off_scale<F: Fn(usize) -> i16>(n: usize, score: F) -> Finding
-    requires n_bound { n ≤ 128 }
-    requires callable { (k : ℕ) → k < half n → F.pre score k }
-    ensures { (xs : List ℤ) → ((k : ℕ) (s : ℤ) → k < half n → F.post score k s → s ≡ get_or xs k (pos 0)) → result ≡ scores_off n xs }
-{
-    for i in 0..n {
-        for j in i + 1..n {
-            if !on_scale(score(spot_of(n, i, j))) {
-                return Finding::Fault {
-                    number: 5,
-                    row: i,
-                    column: j,
-                };
-            }
-        }
-    }
-    Finding::Fine
-}
-
 // 1 and 2: n, and the number of the scores.
-pub fn count_fault(n: usize, scores: &[i16]) -> Finding
+pub fn count_fault(n: usize, scores: &[i16]) -> Result<(), Refusal>
     ensures { result ≡ first_of (too_many n ∷ wrong_count scores.now n ∷ []) }
 {
     if 128 < n {
-        return Finding::Fault {
-            number: 1,
-            row: 0,
-            column: 0,
-        };
+        return Err(Refusal::TooManyVertices);
     }
-    if scores.len() == half_of(n) {
-        return Finding::Fine;
+    if scores.len() != half_of(n) {
+        return Err(Refusal::WrongLength);
     }
-    Finding::Fault {
-        number: 2,
-        row: 0,
-        column: 0,
-    }
+    Ok(())
 }
 
-// 5: the threshold, then the scores.
-pub fn scale_fault(n: usize, t: i16, scores: &[i16]) -> Finding
+// 5: the threshold, then the first score off the scale, row by row, with its pair: of any list xs that `score` gives the scores of.
+pub fn scale_fault<F: Fn(usize) -> i16>(n: usize, t: i16, score: F) -> Result<(), Refusal>
     requires n_bound { n ≤ 128 }
-    requires scores_len { length scores.now ≡ half n }
-    ensures { result ≡ first_of (threshold_off t ∷ scores_off n scores.now ∷ []) }
+    requires callable { (k : ℕ) → k < half n → F.pre score k }
+    ensures { (xs : List ℤ) → ((k : ℕ) (s : ℤ) → k < half n → F.post score k s → s ≡ get_or xs k (pos 0))
+        → result ≡ first_of (threshold_off t ∷ scores_off n xs ∷ []) }
 {
-    if on_scale(t) {
-        return off_scale(n, |k| scores[k]);
+    if !on_scale(t) {
+        return Err(Refusal::OffScale { row: 0, column: 0 });
     }
-    Finding::Fault {
-        number: 5,
-        row: 0,
-        column: 0,
+    for i in 0..n {
+        for j in i + 1..n {
+            if !on_scale(score(spot_of(n, i, j))) {
+                return Err(Refusal::OffScale { row: i, column: j });
+            }
+        }
     }
+    Ok(())
 }

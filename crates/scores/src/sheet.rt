@@ -1,15 +1,16 @@
 // The sheet's fields: numbers read from bytes and written to bytes, low byte first, and the scores among them.
-ghost use Rattle.std.specs.Prelude.{◌≡◌, not, ◌+◌, ◌*◌, ◌/◌, ◌%◌, ◌≤◌, ◌<◌, length, set};
+ghost use Rattle.std.specs.Prelude.{◌≡◌, ◌+◌, ◌*◌, ◌≤◌, ◌<◌, length, IfOk};
 ghost use Rattle.std.proofs.Math.Seq.{paste};
 ghost use Rattle.std.specs.Int.{w16};
 ghost use Rattle.std.proofs.Common.{to_z};
-ghost use Rattle.scores.specs.Scale.{on_scale, half, scores_off};
-ghost use Rattle.scores.specs.Sheet.{field, score_at, sheet_length, score_bytes, trailer, notes_of, size_of, threshold_of};
-ghost use Rattle.scores.specs.Reader.{wrong_layout, layout_fault, sheet_fault};
-ghost use Rattle.scores.specs.Inner.{scores_in};
+ghost use Rattle.graph.specs.Refusal.{refusal};
+ghost use Rattle.scores.specs.Scale.{half};
+ghost use Rattle.scores.specs.Sheet.{field, score_at, sheet_length, score_bytes, trailer as trailer_bytes};
+ghost use Rattle.scores.specs.Reader.{layout_fault, sheet_fault};
+ghost use Rattle.scores.specs.Inner.{scores_in, trailer_of};
 
-use crate::scale;
-use graph::Finding;
+use crate::{Trailer, scale};
+use graph::Refusal;
 
 // The number in the two bytes at a place.
 pub fn number2(s: &[u8], at: usize) -> u16
@@ -74,37 +75,15 @@ pub fn put_scores(buf: &mut [u8], scores: &[i16])
 }
 
 // The trailer, from the start of the part of the buffer that is lent.
-pub fn put_trailer(buf: &mut [u8], p: usize, n: usize, t: i16)
+pub fn put_trailer(buf: &mut [u8], trailer: Trailer)
     requires in_bounds { 8 ≤ length buf.old }
-    requires p_bound { p ≤ 32768 }
-    requires n_bound { n ≤ 128 }
-    ensures { buf.new ≡ paste buf.old 0 (trailer p n t) 8 }
+    requires p_bound { trailer.p ≤ 32768 }
+    requires n_bound { trailer.n ≤ 128 }
+    ensures { buf.new ≡ paste buf.old 0 (trailer_bytes trailer.p trailer.n trailer.t) 8 }
 {
-    buf[..4].copy_from_slice(&(p as u32).to_le_bytes());
-    buf[4..6].copy_from_slice(&(n as u16).to_le_bytes());
-    buf[6..8].copy_from_slice(&t.to_le_bytes());
-}
-
-// p, n and t of a sheet that has a trailer.
-pub fn notes_of(sheet: &[u8]) -> usize
-    requires { 8 ≤ length sheet.now }
-    ensures { result ≡ notes_of sheet.now }
-{
-    number4(sheet, sheet.len() - 8)
-}
-
-pub fn size_of(sheet: &[u8]) -> usize
-    requires { 8 ≤ length sheet.now }
-    ensures { result ≡ size_of sheet.now }
-{
-    number2(sheet, sheet.len() - 4) as usize
-}
-
-pub fn threshold_of(sheet: &[u8]) -> i16
-    requires { 8 ≤ length sheet.now }
-    ensures { result ≡ threshold_of sheet.now }
-{
-    signed2(sheet, sheet.len() - 2)
+    buf[..4].copy_from_slice(&(trailer.p as u32).to_le_bytes());
+    buf[4..6].copy_from_slice(&(trailer.n as u16).to_le_bytes());
+    buf[6..8].copy_from_slice(&trailer.t.to_le_bytes());
 }
 
 // p + n(n-1) + 8.
@@ -116,68 +95,43 @@ pub fn length_of(p: usize, n: usize) -> usize
     p + 2 * scale::half_of(n) + 8
 }
 
-// Does the sheet have the length that its p and this n ask for, and p at most 32,768?
-fn is_long(sheet: &[u8], n: usize) -> bool
-    requires in_bounds { 8 ≤ length sheet.now }
-    requires n_bound { n ≤ 128 }
-    ensures { result ≡ not (wrong_layout sheet.now (notes_of sheet.now) n) }
+// The trailer of a sheet that has one.
+fn trailer_of(sheet: &[u8]) -> Trailer
+    requires { 8 ≤ length sheet.now }
+    ensures { result ≡ trailer_of sheet.now }
 {
-    let p = notes_of(sheet);
-    if 32768 < p {
-        return false;
+    let end = sheet.len();
+    Trailer {
+        p: number4(sheet, end - 8),
+        n: number2(sheet, end - 4) as usize,
+        t: signed2(sheet, end - 2),
     }
-    sheet.len() == length_of(p, n)
 }
 
-// 11, 1 and 11: the trailer, n, and the length.
-fn layout_fault(sheet: &[u8]) -> Finding
-    ensures { result ≡ layout_fault sheet.now }
+// 11, 1 and 11: the trailer, n, and p and the length.
+fn layout_fault(sheet: &[u8]) -> Result<Trailer, Refusal>
+    ensures refused { refusal result ≡ layout_fault sheet.now }
+    ensures trailer { IfOk result (λ h. h ≡ trailer_of sheet.now) }
 {
     if sheet.len() < 8 {
-        return Finding::Fault {
-            number: 11,
-            row: 0,
-            column: 0,
-        };
+        return Err(Refusal::BadSheet);
     }
-    let n = size_of(sheet);
-    if 128 < n {
-        return Finding::Fault {
-            number: 1,
-            row: 0,
-            column: 0,
-        };
+    let trailer = trailer_of(sheet);
+    if 128 < trailer.n {
+        return Err(Refusal::TooManyVertices);
     }
-    if is_long(sheet, n) {
-        return Finding::Fine;
+    if 32768 < trailer.p || sheet.len() != length_of(trailer.p, trailer.n) {
+        return Err(Refusal::BadSheet);
     }
-    Finding::Fault {
-        number: 11,
-        row: 0,
-        column: 0,
-    }
+    Ok(trailer)
 }
 
-// All that a sheet is refused for but room.
-pub fn sheet_fault(sheet: &[u8]) -> Finding
-    ensures { result ≡ sheet_fault sheet.now }
+// All that a sheet is refused for but room, or its trailer.
+pub fn sheet_fault(sheet: &[u8]) -> Result<Trailer, Refusal>
+    ensures refused { refusal result ≡ sheet_fault sheet.now }
+    ensures trailer { IfOk result (λ h. h ≡ trailer_of sheet.now) }
 {
-    let found = layout_fault(sheet);
-    if let Finding::Fault {
-        number: _,
-        row: _,
-        column: _,
-    } = found
-    {
-        return found;
-    }
-    if scale::on_scale(threshold_of(sheet)) {
-        let p = notes_of(sheet);
-        return scale::off_scale(size_of(sheet), |k| score_at(sheet, p, k));
-    }
-    Finding::Fault {
-        number: 5,
-        row: 0,
-        column: 0,
-    }
+    let trailer = layout_fault(sheet)?;
+    scale::scale_fault(trailer.n, trailer.t, |k| score_at(sheet, trailer.p, k))?;
+    Ok(trailer)
 }
