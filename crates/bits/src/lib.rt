@@ -36,7 +36,7 @@ pub fn low(w: u64) -> usize
     requires { 0 < w }
     ensures { Lowest w result }
 {
-    u64::trailing_zeros(w) as usize
+    w.trailing_zeros() as usize
 }
 
 // w with its lowest set bit cleared.
@@ -51,7 +51,7 @@ pub fn rest(w: u64) -> u64
 pub fn ones_of(w: u64) -> usize
     ensures { result ≡ count (bit w) 64 }
 {
-    u64::count_ones(w) as usize
+    w.count_ones() as usize
 }
 
 // The bits of both a and b.
