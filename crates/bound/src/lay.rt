@@ -1,5 +1,5 @@
 // A quad is visited: where none of its six pairs is used, its free pairs are laid, one at a time from the last, and the
-// lowest of their costs is added to the sum. A sum that passes the room ends as 4,294,967,295.
+// lowest of their costs is added to the sum. A sum that passes the room ends as `None`.
 ghost use Rattle.std.specs.Prelude.{◌≡◌, ◌&&◌, ◌||◌, ℕ, ◌+◌, ◌*◌, ◌≤◌, ◌<◌, length, eqb};
 ghost use Rattle.graph.specs.Graph.{word_edge};
 ghost use Rattle.repair.specs.Packing.{hopeless};
@@ -98,7 +98,7 @@ fn touched_of(taken: &[u64], a: usize, b: usize, c: usize, d: usize) -> bool
         || graph::rows::adjacent(taken, c, d)
 }
 
-// The quad a, b, c, d is visited: the sum after it, 4,294,967,295 where that is past the room.
+// The quad a, b, c, d is visited: the sum after it, `None` where that is past the room.
 pub fn visit_of(
     cost: &[u16],
     taken: &mut [u64],
@@ -108,17 +108,17 @@ pub fn visit_of(
     d: usize,
     total: u32,
     room: u32,
-) -> u32
+) -> Option<u32>
     requires ready { Ready cost.now taken.old total room }
     requires a_bound { (a < 128) × (b < 128) × (c < 128) × (d < 128) }
     ensures { Left room (visit cost.now a b c d (held taken.old total)) taken.new result }
 {
     if touched_of(taken, a, b, c, d) {
-        return total;
+        return Some(total);
     }
-    let x = lay_all(cost, taken, a, b, c, d);
-    if room - total < x {
-        return 4294967295;
+    let fee = lay_all(cost, taken, a, b, c, d);
+    if room - total < fee {
+        return None;
     }
-    total + x
+    Some(total + fee)
 }
