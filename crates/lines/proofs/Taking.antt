@@ -91,7 +91,7 @@ module _ (sheet : List ℕ) where
                 (few, omega (arith, pairs_few h.n few)),
                 (
                   ap on_scale (same ∙ filled.threshold) ∙ ok.1,
-                  ok.2 ∙ sym (ap (λ (m : ℕ). scores_off m (take (half n) after)) sized ∙ ap (scores_off (size_of sheet)) scores_told),
+                  ok.2 ∙ sym (ap (λ (m : ℕ). scores_off m (take (half h.n) after)) sized ∙ ap (scores_off (size_of sheet)) scores_told),
                 ),
               )
 

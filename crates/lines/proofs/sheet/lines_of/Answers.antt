@@ -14,13 +14,13 @@ returns-then-sheet-gt49032 c =
 
 pub returns-in_default : goal.returns-in_default
 returns-in_default c =
-    refused_paged c.args.sheet.now c.if-sheet-gt49032.false _ (length-replicate {A = ℤ} 8128 (pos 0)) c.read.ensures c.in_default.is c.refused.ensures
+    refused_paged c.args.sheet.now c.if-sheet-gt49032.false _ (length-replicate {A = ℤ} 8128 (pos 0)) c.read-read.ensures c.in_default.is c.refused.ensures
 
 pub listed-requires : goal.listed-requires
 listed-requires c =
-    let right = listed_right c.args.sheet.now c.if-sheet-gt49032.false _ (length-replicate {A = ℤ} 8128 (pos 0)) c.read.ensures c.in-Ok.is refl c.read.auto.scores in
+    let right = listed_right c.args.sheet.now c.if-sheet-gt49032.false _ (length-replicate {A = ℤ} 8128 (pos 0)) c.read-read.ensures c.in-Ok.is refl c.read-read.auto.scores in
     let t = to_z-of_z w16 c.in-Ok.t (on_lift c.in-Ok.t right.1.0).2 in
-    let all = listed_right c.args.sheet.now c.if-sheet-gt49032.false _ (length-replicate {A = ℤ} 8128 (pos 0)) c.read.ensures c.in-Ok.is t c.read.auto.scores in
+    let all = listed_right c.args.sheet.now c.if-sheet-gt49032.false _ (length-replicate {A = ℤ} 8128 (pos 0)) c.read-read.ensures c.in-Ok.is t c.read-read.auto.scores in
     record {
       n_bound = all.0;
       t_value = all.1;
@@ -29,6 +29,6 @@ listed-requires c =
 
 pub returns : goal.returns
 returns c =
-    let right = listed_right c.args.sheet.now c.if-sheet-gt49032.false _ (length-replicate {A = ℤ} 8128 (pos 0)) c.read.ensures c.in-Ok.is refl c.read.auto.scores in
+    let right = listed_right c.args.sheet.now c.if-sheet-gt49032.false _ (length-replicate {A = ℤ} 8128 (pos 0)) c.read-read.ensures c.in-Ok.is refl c.read-read.auto.scores in
     let t = to_z-of_z w16 c.in-Ok.t (on_lift c.in-Ok.t right.1.0).2 in
-    listed_paged c.args.sheet.now c.if-sheet-gt49032.false _ (length-replicate {A = ℤ} 8128 (pos 0)) c.read.ensures c.in-Ok.is t c.listed.ensures
+    listed_paged c.args.sheet.now c.if-sheet-gt49032.false _ (length-replicate {A = ℤ} 8128 (pos 0)) c.read-read.ensures c.in-Ok.is t c.listed.ensures

@@ -9,3 +9,10 @@ use Rattle.lines.specs.Lines.{refusal_line}
 use Rattle.lines.proofs.Behind.{room_alone, put_alone}
 use Rattle.lines.proofs.Bounds.{refusal_short}
 use Rattle.lines.proofs.sheet.refused.Goals as goal
+
+pub three-requires : goal.three-requires
+three-requires c =
+    room_alone c.requires _ (refusal_short 0 0 0 (omega arith) (omega arith) (omega arith))
+
+pub three-requires-2 : goal.three-requires-2
+three-requires-2 c = ?

@@ -41,4 +41,10 @@ returns-in-Ok-Stopped c =
     stopped_paged c.args.n c.args.graph.now c.args.prices.now _ c.requires.checked room over (put_alone c.requires.empty c.one.ensures)
 
 pub unreachable-requires : goal.unreachable-requires
-unreachable-requires c = ?
+unreachable-requires c =
+    not_nothing c.args.n c.args.graph.now c.args.prices.now _ c.requires.checked (length-replicate {A = ℕ} 8128 0)
+    (rw c.in-Ok-Nothing.field-0-is at c.in-Ok-Nothing.ensures) refl
+
+pub unreachable-requires-in-Err : goal.unreachable-requires-in-Err
+unreachable-requires-in-Err c =
+    not_refused c.args.n c.args.graph.now c.args.prices.now _ c.requires.checked (length-replicate {A = ℕ} 8128 0) c.in-Err.ensures refl

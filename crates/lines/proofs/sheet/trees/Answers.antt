@@ -9,9 +9,10 @@ use Rattle.lines.specs.Lines.{parent_lines, groups_line}
 use Rattle.lines.proofs.Behind.{room_as, put_as, first_room, then_room, both}
 use Rattle.lines.proofs.Trees.{is_forest, firsts_told, parents_told, groups_told}
 use Rattle.lines.proofs.sheet.trees.Goals as goal
+use Rattle.lines.proofs.sheet.trees.Goals.{in_default-via-in-Ok+in_default, in_default-via-in_default}
 
 pub unreachable-requires : goal.unreachable-requires
-unreachable-requires c = ?
+unreachable-requires c = elim c.in_default.branch [ in_default-via-in-Ok+in_default w ↦ let h = w.in_default in ? | in_default-via-in_default w ↦ let h = w.in_default in ? ]
 
 pub parents-requires : goal.parents-requires
 parents-requires c =
