@@ -64,17 +64,17 @@ module _ (sheet : List ℕ) where
             (put ∙ ap (λ (x : Result Trailer Refusal). refusal_line (number_of (refusal x)) (row_of (refusal x)) (column_of (refusal x))) e)
 
         -- the sheet is read
-        module _ {p n : ℕ} {t u : ℤ} (e : r ≡ Ok (record { p = p; n = n; t = t })) (same : u ≡ t) where
+        module _ {h : Trailer} {u : ℤ} (e : r ≡ Ok h) (same : u ≡ h.t) where
           right : Ok tt ≡ sheet_fault sheet
           right = sym (sym read_fault ∙ same_fault ∙ ap refusal e)
 
-          filled : Filled sheet out p n t after
+          filled : Filled sheet out h.p h.n h.t after
           filled = (subst (λ (x : Result Trailer Refusal). Promise sheet out x after) e told).meant
 
-          sized : n ≡ size_of sheet
+          sized : h.n ≡ size_of sheet
           sized = filled.size
 
-          scores_told : take (half n) after ≡ scores_of sheet
+          scores_told : take (half h.n) after ≡ scores_of sheet
           unfolding scores_of
           scores_told =
               ap (λ (m : ℕ). take (half m) after) sized ∙ ap (take (half (size_of sheet))) filled.scores ∙
@@ -83,21 +83,21 @@ module _ (sheet : List ℕ) where
 
           pub listed_right :
               length after ≡ length out →
-              ((n ≤ 128) × (half n ≤ length after))
-              × ((on_scale u ≡ true) × (Ok tt ≡ scores_off n (take (half n) after)))
+              ((h.n ≤ 128) × (half h.n ≤ length after))
+              × ((on_scale u ≡ true) × (Ok tt ≡ scores_off h.n (take (half h.n) after)))
           listed_right long =
               let ok = sound sheet right in
-              let few : n ≤ 128 = omega (arith, sized, ok.0.few) in (
-                (few, omega (arith, pairs_few n few)),
+              let few : h.n ≤ 128 = omega (arith, sized, ok.0.few) in (
+                (few, omega (arith, pairs_few h.n few)),
                 (
                   ap on_scale (same ∙ filled.threshold) ∙ ok.1,
-                  ok.2 ∙ sym (ap (λ (m : ℕ). scores_off m (take (half n) after)) sized ∙ ap (scores_off (size_of sheet)) scores_told),
+                  ok.2 ∙ sym (ap (λ (m : ℕ). scores_off m (take (half h.n) after)) sized ∙ ap (scores_off (size_of sheet)) scores_told),
                 ),
               )
 
           pub listed_paged :
               {now : List ℕ} →
-              Searched n (edge n (square n (edge_byte n u (take (half n) after))))
-              (toll_of (square n (price_entry n u (take (half n) after)))) now → Lines sheet now
+              Searched h.n (edge h.n (square h.n (edge_byte h.n u (take (half h.n) after))))
+              (toll_of (square h.n (price_entry h.n u (take (half h.n) after)))) now → Lines sheet now
           unfolding graph_of prices_of
           listed_paged {now} page = lines now (read_fault ∙ sym right) ((rw (scores_told, same, filled.threshold, sized) at page))

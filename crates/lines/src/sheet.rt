@@ -81,7 +81,8 @@ fn searched(page: &mut Page, n: usize, graph: &mut [u8], prices: &[u16])
             );
         }
         Ok(Stopped { steps }) => page.one(b"answer 9 steps ", steps as usize),
-        Ok(Nothing { .. }) | Err(_) => unreachable!(),
+        Ok(Nothing { .. }) => unreachable!(),
+        Err(_) => unreachable!(),
     }
 }
 

@@ -9,28 +9,27 @@ use Rattle.lines.specs.Lines.{parent_lines, groups_line}
 use Rattle.lines.proofs.Behind.{room_as, put_as, first_room, then_room, both}
 use Rattle.lines.proofs.Trees.{is_forest, firsts_told, parents_told, groups_told}
 use Rattle.lines.proofs.sheet.trees.Goals as goal
+use Rattle.lines.proofs.sheet.trees.Goals.{in_default-via-in-Ok+in_default, in_default-via-in_default}
 
-pub returns-in_default : goal.returns-in_default
-returns-in_default c =
-    let (groups, e) = is_forest c.args.n c.args.graph.now _ c.requires.n_bound.0 c.requires.n_bound.1 c.requires.n_bound.2 (omega arith) c.requires.clean c.forest-answer.result c.forest-answer.ensures in
-    absurd (c.in_default.not-Forest groups e)
+pub unreachable-requires : goal.unreachable-requires
+unreachable-requires c = elim c.in_default.branch [ in_default-via-in-Ok+in_default w ↦ let h = w.in_default in ? | in_default-via-in_default w ↦ let h = w.in_default in ? ]
 
 pub parents-requires : goal.parents-requires
 parents-requires c =
-    let p = subst (λ r. Promise c.args.n c.args.graph.now _ r c.forest-answer.new.out) c.in-Forest.is c.forest-answer.ensures in
+    let p = rw c.in-Ok-Forest.field-0-is at c.in-Ok-Forest.ensures in
     let e = parents_told c.args.n c.args.graph.now _ c.requires.n_bound.0 c.requires.n_bound.1 c.requires.n_bound.2 p.meant in
-    room_as c.args.page.now (firsts_told c.args.n c.forest-answer.new.out (omega (arith, c.forest-answer.auto.out)) ∙ e) (first_room c.args.page.now (parent_lines c.args.n (parent c.args.n (edge c.args.n c.args.graph.now))) (groups_line (roots c.args.n (parent c.args.n (edge c.args.n c.args.graph.now)))) c.requires.graph_in_bounds)
+    room_as c.args.page.now (firsts_told c.args.n c.forest.new.out (omega (arith, c.forest.auto.out)) ∙ e) (first_room c.args.page.now (parent_lines c.args.n (parent c.args.n (edge c.args.n c.args.graph.now))) (groups_line (roots c.args.n (parent c.args.n (edge c.args.n c.args.graph.now)))) c.requires.graph_in_bounds)
 
 pub one-requires : goal.one-requires
 one-requires c =
-    let p = subst (λ r. Promise c.args.n c.args.graph.now _ r c.forest-answer.new.out) c.in-Forest.is c.forest-answer.ensures in
-    let first = put_as c.args.page.now (firsts_told c.args.n c.forest-answer.new.out (omega (arith, c.forest-answer.auto.out)) ∙ parents_told c.args.n c.args.graph.now _ c.requires.n_bound.0 c.requires.n_bound.1 c.requires.n_bound.2 p.meant) c.parents.ensures in
+    let p = rw c.in-Ok-Forest.field-0-is at c.in-Ok-Forest.ensures in
+    let first = put_as c.args.page.now (firsts_told c.args.n c.forest.new.out (omega (arith, c.forest.auto.out)) ∙ parents_told c.args.n c.args.graph.now _ c.requires.n_bound.0 c.requires.n_bound.1 c.requires.n_bound.2 p.meant) c.parents.ensures in
     let told = ap groups_line (groups_told c.args.n c.args.graph.now _ c.requires.n_bound.0 c.requires.n_bound.1 c.requires.n_bound.2 p.meant) in
     room_as c.parents.new.page told (then_room c.args.page.now (parent_lines c.args.n (parent c.args.n (edge c.args.n c.args.graph.now))) (groups_line (roots c.args.n (parent c.args.n (edge c.args.n c.args.graph.now)))) c.requires.graph_in_bounds first)
 
 pub returns : goal.returns
 returns c =
-    let p = subst (λ r. Promise c.args.n c.args.graph.now _ r c.forest-answer.new.out) c.in-Forest.is c.forest-answer.ensures in
-    let first = put_as c.args.page.now (firsts_told c.args.n c.forest-answer.new.out (omega (arith, c.forest-answer.auto.out)) ∙ parents_told c.args.n c.args.graph.now _ c.requires.n_bound.0 c.requires.n_bound.1 c.requires.n_bound.2 p.meant) c.parents.ensures in
+    let p = rw c.in-Ok-Forest.field-0-is at c.in-Ok-Forest.ensures in
+    let first = put_as c.args.page.now (firsts_told c.args.n c.forest.new.out (omega (arith, c.forest.auto.out)) ∙ parents_told c.args.n c.args.graph.now _ c.requires.n_bound.0 c.requires.n_bound.1 c.requires.n_bound.2 p.meant) c.parents.ensures in
     let told = ap groups_line (groups_told c.args.n c.args.graph.now _ c.requires.n_bound.0 c.requires.n_bound.1 c.requires.n_bound.2 p.meant) in
     both c.args.page.now (parent_lines c.args.n (parent c.args.n (edge c.args.n c.args.graph.now))) (groups_line (roots c.args.n (parent c.args.n (edge c.args.n c.args.graph.now)))) c.requires.graph_in_bounds first (put_as c.parents.new.page told c.one.ensures)
