@@ -3,13 +3,11 @@ use mathlib.Core.Path.{◌≡◌, refl, sym, ◌∙◌, ap}
 use mathlib.Core.Bool.{Bool}
 use mathlib.Core.List.{List, [], ◌∷◌, ◌++◌}
 use Prim.Native.Nat.{ℕ, ◌*◌, ◌<◌, ◌≤◌}
-use native.Mathlib.Nat.{le_trans, mul-le-mul_left, mul-le-mul_right}
 use native.Mathlib.Omega.{arith}
 use lib.ListN.{length, drop}
 use borrow.Author.Tests.{lt-ltb, le-ltb, eq-eqb, ne_eqb}
 use Rattle.bits.proofs.Truth.{not_in, not_off}
-use Rattle.graph.specs.declared.Quad.{Quad}
-use Rattle.std.specs.Prelude.{None, Some, Ok, Err}
+use Rattle.std.specs.Prelude.{None, Ok, Err}
 use Rattle.graph.specs.declared.Refusal.{Refusal}
 use Rattle.graph.specs.declared.Refusal.TheVariants.{TooManyVertices, WrongLength, NoRoom}
 use Rattle.graph.specs.Each.{each}
@@ -20,15 +18,11 @@ use Rattle.graph.specs.Refusal.{first_of}
 use Rattle.graph.proofs.Refusals.{first_of_here, first_of_next, first_of_single, row_holds, row_passes}
 use Rattle.graph.proofs.Quads.{clear_clean}
 use Rattle.forest.specs.declared.Answer.{Answer}
-use Rattle.forest.specs.declared.Answer.TheVariants.{Spoiled, Forest}
+use Rattle.forest.specs.declared.Answer.TheVariants.{Forest}
 use Rattle.forest.specs.Order.{parent}
 use Rattle.forest.specs.Forest.{roots}
 use Rattle.forest.specs.Answer.{Promise, Meant, checks}
 use Rattle.forest.proofs.Listed.{grown}
-
--- n x n bytes are few
-pub square_small : {n : ℕ} → n ≤ 128 → n * n ≤ 128 * 128
-square_small {n} h = le_trans (mul-le-mul_left n h) (mul-le-mul_right 128 h)
 
 module _ (n : ℕ) (g out : List ℕ) where
   refused : {r : Refusal} → first_of (checks n g out) ≡ Err r → Promise n g out (Err r) out
@@ -72,11 +66,8 @@ module _ (n : ℕ) (g out : List ℕ) where
         answered room told =
             record { refused = sym (last_check ∙ row_passes NoRoom (le-ltb (length out) n room)); meant = told }
 
-  -- the words read as the bytes do
+  -- by words that read as the bytes do
   module _ {e : ℕ → ℕ → Bool} (same : e ≡ edge n g) where
-    pub spoiled : {q : Quad} → Some q ≡ first (quads n e) → Meant n g out (Ok (Spoiled q)) out
-    spoiled told = (ap (λ (d : ℕ → ℕ → Bool). first (quads n d)) (sym same) ∙ sym told, refl)
-
     pub cleared : IsGraph n (edge n g) → n ≤ 128 → None ≡ first (quads n e) → {groups : ℕ} {after : List ℕ}
         → groups ≡ roots n (parent n e) → after ≡ each n (λ v. parent n e v ∷ []) ++ drop n out
         → Meant n g out (Ok (Forest groups)) after

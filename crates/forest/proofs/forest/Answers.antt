@@ -2,16 +2,12 @@ use Rattle.std.proofs.Common.{rules}
 use Rattle.std.specs.Prelude.{Err}
 use mathlib.Core.Path.{◌≡◌, ◌∙◌, sym}
 use Rattle.graph.proofs.Reading.{entries_graph}
-use Rattle.forest.proofs.Answers.{square_small, refused_size, refused_length, refused_entry, refused_room, answered}
+use Rattle.forest.proofs.Answers.{refused_size, refused_length, refused_entry, refused_room, answered}
 use Rattle.forest.proofs.forest.Goals as goal
 
 pub returns-then-n-gt128 : goal.returns-then-n-gt128
 returns-then-n-gt128 c =
     refused_size _ _ _ c.if-n-gt128.true
-
-pub overflow_mul-n : goal.overflow_mul-n
-overflow_mul-n c =
-    let few = square_small c.if-n-gt128.false in search rules
 
 pub returns-then-g-n : goal.returns-then-g-n
 returns-then-g-n c =
