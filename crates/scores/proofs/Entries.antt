@@ -1,15 +1,20 @@
 -- An entry of the graph and of the prices, from the score of its pair. Assumes nothing.
-use mathlib.Core.Path.{◌≡◌, sym, ◌∙◌, ap, ap₂}
+use mathlib.Core.Path.{◌≡◌, refl, sym, ◌∙◌, ap, ap₂}
 use mathlib.Core.Logic.{◌≢◌}
-use mathlib.Core.Bool.{Bool}
+use mathlib.Core.Bool.{Bool, true, false}
 use mathlib.Core.List.{List}
 use Prim.Native.Nat.{ℕ}
 use lib.ListN.{get_or}
 use lib.IntN.{ℤ, pos}
 use borrow.Author.Tests.{eq-eqb, ne_eqb}
+use Rattle.std.specs.Int.{from_bool}
 use Rattle.bits.specs.Choice.{pick}
 use Rattle.bits.proofs.Truth.{pick_true, pick_false}
 use Rattle.scores.specs.Scale.{edge_of, price_of, spot, score_of, edge_byte, price_entry}
+
+one_or_zero : (b : Bool) → from_bool b ≡ pick b 1 0
+one_or_zero true = refl
+one_or_zero false = refl
 
 module _ (n : ℕ) (t : ℤ) (scores : List ℤ) where
   pub edge_diagonal : (i j : ℕ) → i ≡ j → 0 ≡ edge_byte n t scores i j
@@ -26,10 +31,11 @@ module _ (n : ℕ) (t : ℤ) (scores : List ℤ) where
     unfolding score_of
     score_here = here ∙ ap (λ x. get_or scores x (pos 0)) at
 
-    pub edge_apart : (b : Bool) → edge_of z u ≡ b → pick b 1 0 ≡ edge_byte n t scores i j
+    pub edge_apart : (b : Bool) → edge_of z u ≡ b → from_bool b ≡ edge_byte n t scores i j
     unfolding edge_byte
     edge_apart b h =
-        ap (λ x. pick x 1 0) (sym h ∙ ap₂ edge_of score_here same)
+        one_or_zero b
+        ∙ ap (λ x. pick x 1 0) (sym h ∙ ap₂ edge_of score_here same)
         ∙ sym (pick_false 0 (pick (edge_of (score_of n scores i j) t) 1 0) (ne_eqb i j apart))
 
     pub price_apart : price_of z u ≡ price_entry n t scores i j

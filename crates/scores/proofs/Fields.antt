@@ -82,5 +82,9 @@ field_none s at = refl
 pub field_two : (s : List ℕ) (at : ℕ) → at + 2 ≤ length s → field s at 2 ≡ get_or s at 0 + 256 * get_or s (at + 1) 0
 field_two s at h = field_more s at 0 h ∙ omega (arith, field_none s (at + 2))
 
-pub field_four : (s : List ℕ) (at : ℕ) → at + 4 ≤ length s → field s at 4 ≡ field s at 2 + 65536 * field s (at + 2) 2
-field_four s at h = field_more s at 2 (omega arith) ∙ omega (arith, field_two s at (omega arith))
+pub field_four :
+    (s : List ℕ) (at : ℕ) → at + 4 ≤ length s →
+    field s at 4 ≡ get_or s at 0 + 256 * (get_or s (at + 1) 0 + 256 * (get_or s (at + 2) 0 + 256 * get_or s (at + 3) 0))
+field_four s at h =
+    let last : get_or s (at + 2 + 1) 0 ≡ get_or s (at + 3) 0 = ap (λ (x : ℕ). get_or s x 0) (omega arith) in
+    field_more s at 2 (omega arith) ∙ omega (arith, field_two s (at + 2) (omega arith))

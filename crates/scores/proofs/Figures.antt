@@ -7,9 +7,7 @@ use Prim.Native.Nat.{ℕ}
 use lib.Dec.{eqb}
 use lib.IntN.{ℤ, pos, negsuc}
 use lib.Signed.{le_z}
-use Rattle.graph.specs.declared.Finding.{Finding}
-use Rattle.graph.specs.declared.Finding.TheVariants.{Fine, Fault}
-use Rattle.graph.specs.Refusal.{first_of}
+use Rattle.graph.specs.Refusal.{Finding, number_of, row_of, column_of, first_of}
 use Rattle.scores.specs.Scale.{distance, price_of, earlier, place, spot, score_of, threshold_off, score_off, scores_off, edge_byte, price_entry}
 use Rattle.scores.specs.Sheet.{low_first, number, signed_bytes, score_bytes, trailer, sheet_bytes, field, notes_of, size_of, threshold_of, score_at, scores_of}
 use Rattle.scores.specs.Drawing.{wrong_count, checks}
@@ -34,11 +32,9 @@ same_list eq [] (y ∷ ys) = false
 same_list eq (x ∷ xs) [] = false
 same_list eq (x ∷ xs) (y ∷ ys) = eq x y && same_list eq xs ys
 
-same_finding : Finding → Finding → Bool
-same_finding Fine Fine = true
-same_finding Fine (Fault k i j) = false
-same_finding (Fault k i j) Fine = false
-same_finding (Fault k i j) (Fault k' i' j') = eqb k k' && eqb i i' && eqb j j'
+-- the number and the place of a finding; 0 at (0, 0) where nothing is found
+says : Finding → ℕ → ℕ → ℕ → Bool
+says x k i j = eqb (number_of x) k && eqb (row_of x) i && eqb (column_of x) j
 
 -- what the call finds with room for the two matrices
 abbrev found : ℕ → ℤ → List ℤ → Finding
@@ -46,11 +42,11 @@ found n t scores = first_of (checks n t scores (0 ∷ 0 ∷ 0 ∷ 0 ∷ []) (0 �
 
 pub holds : Figure → Bool
 holds (drawn s t edge price) =
-    same_finding (found 2 t (s ∷ [])) Fine && eqb (edge_byte 2 t (s ∷ []) 0 1) edge && eqb (price_entry 2 t (s ∷ []) 0 1) price
-holds (refused s t number i j) = same_finding (found 2 t (s ∷ [])) (Fault number i j)
+    says (found 2 t (s ∷ [])) 0 0 0 && eqb (edge_byte 2 t (s ∷ []) 0 1) edge && eqb (price_entry 2 t (s ∷ []) 0 1) price
+holds (refused s t number i j) = says (found 2 t (s ∷ [])) number i j
 holds (sheet bytes notes scores n t) =
     same_list eqb (sheet_bytes notes scores n t) bytes
-    && same_finding (sheet_fault bytes) Fine
+    && says (sheet_fault bytes) 0 0 0
     && same_list eqb (shown bytes) notes
     && same_list same_z (scores_of bytes) scores
     && eqb (size_of bytes) n
@@ -76,5 +72,5 @@ figures =
     ∷ []
 
 pub figures_hold : every figures ≡ true
-unfolding every holds figures same_list same_finding first_of row too_many too_short wrong_count checks threshold_off scores_off score_off score_of spot place earlier each only edge_byte price_entry price_of distance sheet_bytes score_bytes signed_bytes low_first trailer number field notes_of size_of threshold_of score_at scores_of wrong_layout layout_fault sheet_fault shown
+unfolding every holds figures same_list says first_of row too_many too_short wrong_count checks threshold_off scores_off score_off score_of spot place earlier each only edge_byte price_entry price_of distance sheet_bytes score_bytes signed_bytes low_first trailer number field notes_of size_of threshold_of score_at scores_of wrong_layout layout_fault sheet_fault shown
 figures_hold = refl

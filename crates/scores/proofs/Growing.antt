@@ -44,3 +44,13 @@ module _
       ∙ ap (λ l. take k now ++ l) (append-nil after ∙ written)
       ∙ ap (λ l. l ++ (s ++ drop (k + m) old)) (ap (take k) so_far ∙ take_at front (drop k old) k first)
       ∙ sym (append_assoc front s (drop (k + m) old))
+
+-- a part of m entries put behind the k that are known
+pub grown_by :
+    {A : Type 0} (old front s : List A) (k m : ℕ) → length front ≡ k → {now : List A} → now ≡ front ++ drop k old →
+    put_mid k m now s ≡ (front ++ s) ++ drop (k + m) old
+grown_by old front s k m first {now} so_far =
+    ap (λ l. take k now ++ (s ++ drop m l)) (ap (drop k) so_far ∙ drop_at front (drop k old) k first)
+    ∙ ap (λ l. l ++ (s ++ drop m (drop k old))) (ap (take k) so_far ∙ take_at front (drop k old) k first)
+    ∙ ap (λ l. front ++ (s ++ l)) (drop-drop m k old)
+    ∙ sym (append_assoc front s (drop (k + m) old))

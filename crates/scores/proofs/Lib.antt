@@ -1,6 +1,5 @@
 pub mod Complement
 pub mod Places
-pub mod Offs
 pub mod Pasting
 pub mod Entries
 pub mod Squares

@@ -4,32 +4,25 @@ use mathlib.Core.Logic.{◌⊎◌, inl, inr}
 use mathlib.Core.Bool.{true, false}
 use Prim.Native.Nat.{◌≤◌}
 use native.Mathlib.Omega.{arith}
-use lib.Dec.{eqb, leb}
-use lib.IntN.{ℤ, pos, negsuc}
+use lib.Dec.{eqb}
+use lib.IntN.{ℤ}
 use mir.Syntax.{w16}
 use mir.Val.{SFits}
-use borrow.Author.Tests.{leb-true, eqb-false}
-use Rattle.bits.proofs.Truth.{and_left, which, pick_true, pick_false}
+use Rattle.std.proofs.lemmas.Int.{ints}
+use borrow.Author.Tests.{eqb-false}
+use Rattle.bits.proofs.Truth.{which, pick_true, pick_false}
 use Rattle.scores.specs.Scale.{on_scale, distance, price_of}
-use Rattle.scores.specs.Inner.{lift}
-use Rattle.scores.proofs.Complement.{distance_lift}
 
-pub on_lift : (s : ℤ) → on_scale s ≡ true → (27768 ≤ lift s) × (lift s ≤ 37768) × SFits w16 s
-unfolding lift
-on_lift (pos a) h =
-    let k : a ≤ 5000 = leb-true a 5000 h in
-    (omega arith, omega arith, record { sfits = omega arith })
-on_lift (negsuc a) h =
-    let k : a ≤ 4999 = leb-true a 4999 (and_left (leb a 4999) true h) in
-    (omega arith, omega arith, record { sfits = omega arith })
+pub on_fits : (s : ℤ) → on_scale s ≡ true → SFits w16 s
+on_fits s h = grind (arith, ints)
+
+near : (s t : ℤ) → on_scale s ≡ true → on_scale t ≡ true → distance s t ≤ 10000
+unfolding distance
+near s t hs ht = grind (arith, ints)
 
 pub price_bounds : (s t : ℤ) → on_scale s ≡ true → on_scale t ≡ true → (1 ≤ price_of s t) × (price_of s t ≤ 10000)
 unfolding price_of
-price_bounds s t hs ht =
-    let a = on_lift s hs in
-    let b = on_lift t ht in
-    let far : distance s t ≤ 10000 = omega (arith, distance_lift s t a.2 b.2) in
-    go far (which (eqb (distance s t) 0))
+price_bounds s t hs ht = go (near s t hs ht) (which (eqb (distance s t) 0))
   where
     go : distance s t ≤ 10000 → (eqb (distance s t) 0 ≡ true) ⊎ (eqb (distance s t) 0 ≡ false) → (1 ≤ price_of s t) × (price_of s t ≤ 10000)
     go far (inl p) = let e : price_of s t ≡ 1 = pick_true 1 (distance s t) p in (omega arith, omega arith)

@@ -11,7 +11,8 @@ use lib.Dec.{eqb}
 use borrow.Author.Tests.{eq-eqb, eqb-false, eqb-true, le-leb, ne_eqb}
 use Rattle.bits.specs.Choice.{pick}
 use Rattle.bits.proofs.Truth.{which, equal, and_in, or_left, pick_true, pick_false}
-use Rattle.graph.specs.declared.Finding.TheVariants.{Fine, Fault}
+use Rattle.std.specs.Prelude.{Ok, Err}
+use Rattle.graph.specs.declared.Refusal.TheVariants.{BadPrice}
 use Rattle.graph.specs.Check.{entry, entries}
 use Rattle.graph.specs.Price as rule
 use Rattle.graph.proofs.CheckLaws.{inside}
@@ -60,7 +61,7 @@ module _ (n : ℕ) (t : ℤ) (scores : List ℤ) where
       ∙ sym (pick_false 0 (price_of (score_of n scores j i) t) (ne_eqb j i (λ e. apart (sym e))))
 
   price_small :
-      (i j : ℕ) → i ≢ j → i < n → j < n → on_scale t ≡ true → Fine ≡ scores_off n scores →
+      (i j : ℕ) → i ≢ j → i < n → j < n → on_scale t ≡ true → Ok tt ≡ scores_off n scores →
       (1 ≤ price_entry n t scores i j) × (price_entry n t scores i j ≤ 10000)
   unfolding price_entry
   price_small i j apart hi hj on fine =
@@ -69,7 +70,7 @@ module _ (n : ℕ) (t : ℤ) (scores : List ℤ) where
       let b = price_bounds (score_of n scores i j) t (scores_on n scores i j apart hi hj fine) on in
       (omega arith, omega arith)
 
-  module _ (graph prices : List ℕ) {graph' prices' : List ℕ} (all : Promise n t scores graph prices Fine graph' prices') where
+  module _ (graph prices : List ℕ) {graph' prices' : List ℕ} (all : Promise n t scores graph prices (Ok tt) graph' prices') where
     few : n ≤ 128
     few = (promised n t scores graph prices all.refused).0
 
@@ -94,7 +95,7 @@ module _ (n : ℕ) (t : ℤ) (scores : List ℤ) where
         go (inl e) = ap₂ (edge_byte n t scores) e (sym e)
         go (inr apart) = edge_mirror i j apart
 
-    edge_fine : (i j : ℕ) → i < n → j < n → entry n graph' i j ≡ Fine
+    edge_fine : (i j : ℕ) → i < n → j < n → entry n graph' i j ≡ Ok tt
     edge_fine i j hi hj =
         entry_fine n graph' i j
         (small_good n graph' i j (omega (arith, edge_at i j hi hj, edge_small i j)) (λ e.
@@ -102,28 +103,28 @@ module _ (n : ℕ) (t : ℤ) (scores : List ℤ) where
         (edge_at i j hi hj ∙ edge_mirrors i j ∙ sym (edge_at j i hj hi))
 
     -- the checks 3 and 4
-    pub graph_passes : entries n graph' ≡ Fine
+    pub graph_passes : entries n graph' ≡ Ok tt
     graph_passes = fine_entries n graph' edge_fine
 
-    price_fine : (i j : ℕ) → i < n → j < n → rule.price_entry n prices' i j ≡ Fine
+    price_fine : (i j : ℕ) → i < n → j < n → rule.price_entry n prices' i j ≡ Ok tt
     unfolding rule.price_entry rule.priced
     price_fine i j hi hj = go (which (eqb i j))
       where
-        go : (eqb i j ≡ true) ⊎ (eqb i j ≡ false) → rule.price_entry n prices' i j ≡ Fine
+        go : (eqb i j ≡ true) ⊎ (eqb i j ≡ false) → rule.price_entry n prices' i j ≡ Ok tt
         go (inl p) =
             let e = eqb-true i j p in
             let zero_price : get_or prices' (i * n + j) 0 ≡ 0 = price_at i j hi hj ∙ sym (price_diagonal n t scores i j e) in
             let mirror : get_or prices' (i * n + j) 0 ≡ get_or prices' (j * n + i) 0 = cc in
-            (pick_true Fine (Fault 6 i j)
+            (pick_true (Ok tt) (Err (BadPrice i j))
             (and_in (pick_true _ _ p ∙ eq-eqb _ _ zero_price) (eq-eqb _ _ mirror)))
         go (inr p) =
             let apart : i ≢ j = eqb-false i j p in
             let b = prices_free i j apart hi hj in
             let mirror = price_at i j hi hj ∙ price_mirror i j apart ∙ sym (price_at j i hj hi) in
-            pick_true Fine (Fault 6 i j)
+            pick_true (Ok tt) (Err (BadPrice i j))
             (and_in (pick_false _ _ p ∙ or_left _ (and_in (le-leb _ _ b.0) (le-leb _ _ b.1))) (eq-eqb _ _ mirror))
 
     -- the check 6
-    pub prices_pass : rule.price_entries n prices' ≡ Fine
+    pub prices_pass : rule.price_entries n prices' ≡ Ok tt
     unfolding rule.price_entries
     prices_pass = fine_grid n (rule.price_entry n prices') price_fine

@@ -1,12 +1,13 @@
 -- The order of the pairs: how many stand before a row in closed form, that places rise with the order, and that there are
 -- n(n-1)/2. By induction on the row. Assumes nothing.
 use mathlib.Core.Path.{◌≡◌, sym, ◌∙◌, ap}
-use mathlib.Core.Logic.{◌⊎◌, inl, inr}
+use mathlib.Core.Logic.{◌⊎◌, inl, inr, ◌≢◌}
 use Prim.Native.Nat.{ℕ, zero, suc, ◌+◌, ◌*◌, ◌-◌, ◌/◌, ◌≤◌, ◌<◌}
 use native.Mathlib.Nat.{suc-mul, mul-suc, zero-mul, mul-le-mul}
-use native.Mathlib.Numerals.{add-one}
 use native.Mathlib.Omega.{arith}
 use borrow.Author.Tests.{lt-ltb, le-ltb}
+use Rattle.std.proofs.Common.{min}
+use Rattle.std.specs.Int.{abs_diff}
 use Rattle.bits.proofs.Truth.{below, pick_true, pick_false}
 use Rattle.scores.specs.Scale.{half, earlier, place, spot}
 
@@ -59,37 +60,24 @@ half_small n h =
     let m : n * (n - 1) ≤ 128 * 127 = mul-le-mul h k in
     omega arith
 
--- the place of a pair either way round, as the code computes it
-module _ (n i j : ℕ) (in-i : i < n) (in-j : j < n) where
-  pub spot_up : i < j → (spot n i j ≡ earlier n i + (j - i - 1)) × (spot n i j < half n)
+-- the place of a pair either way round, as the code computes it from the lesser of the two
+module _ (n i j : ℕ) (in-i : i < n) (in-j : j < n) (apart : i ≢ j) where
+  pub spot_at : {a e : ℕ} → a ≡ min i j → e ≡ earlier n a → (e + abs_diff i j - 1 ≡ spot n i j) × (spot n i j < half n)
   unfolding spot place
-  spot_up h =
-      let e : spot n i j ≡ earlier n i + (j - suc i) = pick_true (place n i j) (place n j i) (lt-ltb i j h) in
-      (e ∙ omega arith, rw e (place_below n h in-j))
-
-  pub spot_down : j < i → (spot n i j ≡ earlier n j + (i - j - 1)) × (spot n i j < half n)
-  unfolding spot place
-  spot_down h =
-      let e : spot n i j ≡ earlier n j + (i - suc j) = pick_false (place n i j) (place n j i) (le-ltb i j (omega arith)) in
-      (e ∙ omega arith, rw e (place_below n h in-i))
-
--- the row that a place lies in, counted off row by row
-pub some_row : (n k : ℕ) → k < half n → 0 < n
-some_row zero k h = absurd (omega arith)
-some_row (suc n) k h = omega arith
-
-pub next_row : (n i k : ℕ) → i < n → k < half n → earlier n i + (n - 1 - i) ≤ k → (i + 1 < n) × (earlier n (i + 1) ≡ earlier n i + (n - 1 - i))
-unfolding earlier
-next_row n i k h l more =
-    let e : earlier n (i + 1) ≡ earlier n i + (n - 1 - i) = rw add-one (omega arith) in
-    (go e (below (i + 1) n), e)
-  where
-    go : earlier n (i + 1) ≡ earlier n i + (n - 1 - i) → (i + 1 < n) ⊎ (n ≤ i + 1) → i + 1 < n
-    go e (inl p) = p
-    go e (inr p) =
-        let z : i + 1 ≡ n = omega arith in
-        let all : earlier n (i + 1) ≡ half n = ap (earlier n) z ∙ earlier_all n in
-        absurd (omega arith)
+  spot_at {a} {e} least before = go (below i j)
+    where
+      go : (i < j) ⊎ (j ≤ i) → (e + abs_diff i j - 1 ≡ spot n i j) × (spot n i j < half n)
+      go (inl p) =
+          let at : spot n i j ≡ earlier n i + (j - suc i) = pick_true (place n i j) (place n j i) (lt-ltb i j p) in
+          let low : a ≡ i = omega arith in
+          let first : earlier n a ≡ earlier n i = ap (earlier n) low in
+          (omega arith, rw at (place_below n p in-j))
+      go (inr p) =
+          let at : spot n i j ≡ earlier n j + (i - suc j) = pick_false (place n i j) (place n j i) (le-ltb i j p) in
+          let low : a ≡ j = omega arith in
+          let down : j < i = omega arith in
+          let first : earlier n a ≡ earlier n j = ap (earlier n) low in
+          (omega arith, rw at (place_below n down in-i))
 
 -- n(n-1) is even
 pub half_twice : (n : ℕ) → 2 * half n ≡ n * (n - 1)

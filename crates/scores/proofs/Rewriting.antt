@@ -14,14 +14,13 @@ use mir.Val.{of_z, to_z, Fits}
 use mir.ValLaws.{of_z-to_z}
 use borrow.Author.Tests.{eq-eqb, le-ltb}
 use Rattle.bits.proofs.Truth.{below, not_off}
-use Rattle.graph.specs.declared.Finding.TheVariants.{Fine}
+use Rattle.std.specs.Prelude.{Result, Ok}
+use Rattle.graph.specs.declared.Refusal.{Refusal}
+use Rattle.graph.specs.declared.Refusal.TheVariants.{TooManyVertices, WrongLength}
 use Rattle.graph.specs.Refusal.{first_of}
 use Rattle.graph.specs.Check.{too_many}
-use Rattle.graph.proofs.Refusals.{first_of_single}
-use Rattle.scores.specs.declared.Reading.TheVariants.{Sheet}
-use Rattle.scores.specs.declared.Writing.{Writing}
-use Rattle.scores.specs.declared.Writing.TheVariants.{Written}
-use Rattle.scores.specs.Scale.{on_scale, half, threshold_off, scores_off}
+use Rattle.scores.specs.declared.Trailer.{Trailer}
+use Rattle.scores.specs.Scale.{on_scale, half, scores_off}
 use Rattle.scores.specs.Drawing.{wrong_count}
 use Rattle.scores.specs.Sheet.{low_first, signed_bytes, score_bytes, trailer, sheet_bytes, sheet_length, field, notes_of, size_of, threshold_of, score_at, scores_of, AreBytes}
 use Rattle.scores.specs.Reader as reader
@@ -30,6 +29,7 @@ use Rattle.scores.proofs.Places.{half_twice}
 use Rattle.scores.proofs.Squares.{length_each, each_at}
 use Rattle.scores.proofs.Fields.{field_back, field_two}
 use Rattle.scores.proofs.Puts.{length_scores, low_byte, high_byte}
+use Rattle.scores.proofs.ScoreFaults.{scores_next}
 use Rattle.scores.proofs.Sheets.{Laid, sound}
 use Rattle.scores.proofs.Checking.{done, pass, fine_first}
 use Rattle.scores.proofs.Readings.{shown_all}
@@ -162,28 +162,26 @@ module _ (sheet : List ℕ) (bytes : AreBytes sheet) (ok : Laid sheet) where
       ∙ take-append-drop q sheet
 
 -- the reader refused nothing
-unrefused_sheet : (sheet : List ℕ) (out : List ℤ) → Fine ≡ first_of (reader.checks sheet out) → Fine ≡ reader.sheet_fault sheet
+unrefused_sheet : (sheet : List ℕ) (out : List ℤ) → Ok tt ≡ first_of (reader.checks sheet out) → Ok tt ≡ reader.sheet_fault sheet
 unfolding reader.checks
 unrefused_sheet sheet out e = (fine_first (reader.sheet_fault sheet) (reader.no_room out (size_of sheet) ∷ []) e).0
 
 -- the writer takes what was read
 writes :
     (sheet : List ℕ) (notes : List ℕ) (scores : List ℤ) (n : ℕ) (t : ℤ) → n ≤ 128 → length scores ≡ half n → length notes ≤ 32768 →
-    on_scale t ≡ true → Fine ≡ scores_off n scores → Fine ≡ writer.write_fault notes scores n t
-unfolding threshold_off too_many wrong_count
+    on_scale t ≡ true → Ok tt ≡ scores_off n scores → Ok tt ≡ writer.write_fault notes scores n t
+unfolding too_many wrong_count
 writes sheet notes scores n t few count short on fine =
-    let counts : Fine ≡ first_of (too_many n ∷ wrong_count scores n ∷ []) =
-    done ∙ pass 2 [] (not_off (eq-eqb _ _ count)) ∙ pass 1 (wrong_count scores n ∷ []) (le-ltb 128 n few) in
-    let offs : Fine ≡ first_of (threshold_off t ∷ scores_off n scores ∷ []) =
-    fine ∙ sym (first_of_single (scores_off n scores)) ∙ pass 5 (scores_off n scores ∷ []) (not_off on) in
-    scale_decides notes scores n t counts short Fine offs
+    let counts : Ok tt ≡ first_of (too_many n ∷ wrong_count scores n ∷ []) =
+    done ∙ pass WrongLength [] (not_off (eq-eqb _ _ count)) ∙ pass TooManyVertices (wrong_count scores n ∷ []) (le-ltb 128 n few) in
+    scale_decides notes scores n t counts short (scores_next n scores t on fine)
 
 again :
     (sheet : List ℕ) → AreBytes sheet →
-    Laid sheet × (on_scale (threshold_of sheet) ≡ true) × (Fine ≡ scores_off (size_of sheet) (scores_of sheet)) → (buf : List ℕ) →
-    length sheet ≤ length buf → {r : Writing} {after : List ℕ} →
+    Laid sheet × (on_scale (threshold_of sheet) ≡ true) × (Ok tt ≡ scores_off (size_of sheet) (scores_of sheet)) → (buf : List ℕ) →
+    length sheet ≤ length buf → {r : Result ℕ Refusal} {after : List ℕ} →
     writer.Promise (take (notes_of sheet) sheet) (scores_of sheet) (size_of sheet) (threshold_of sheet) buf r after →
-    (r ≡ Written (length sheet)) × (after ≡ sheet ++ drop (length sheet) buf)
+    (r ≡ Ok (length sheet)) × (after ≡ sheet ++ drop (length sheet) buf)
 again sheet bytes ok buf room {r} {after} w =
     let laid = ok.0 in
     let notes : List ℕ = take (notes_of sheet) sheet in
@@ -191,23 +189,23 @@ again sheet bytes ok buf room {r} {after} w =
     let size : length sheet ≡ sheet_length (length notes) (size_of sheet) = laid.long ∙ sym (ap (λ (x : ℕ). sheet_length x (size_of sheet)) e) in
     let same = rewritten sheet bytes laid in
     let fine = writes sheet notes (scores_of sheet) (size_of sheet) (threshold_of sheet) laid.few (length_read sheet bytes laid) (omega (arith, laid.short)) ok.1 ok.2 in
-    let mine : writer.Promise notes (scores_of sheet) (size_of sheet) (threshold_of sheet) buf (Written (length sheet)) (sheet ++ drop (length sheet) buf) =
+    let mine : writer.Promise notes (scores_of sheet) (size_of sheet) (threshold_of sheet) buf (Ok (length sheet)) (sheet ++ drop (length sheet) buf) =
     wrote notes (scores_of sheet) (size_of sheet) (threshold_of sheet) buf fine size room refl
     (ap₂ (λ x (k : ℕ). x ++ drop k buf) (sym same) size) in
     writing_determined notes (scores_of sheet) (size_of sheet) (threshold_of sheet) buf w mine
 
 -- what the reader and the notes promise, written again
 pub read_write :
-    (sheet : List ℕ) → AreBytes sheet → (out : List ℤ) {p n : ℕ} {t : ℤ} {list : List ℤ} →
-    reader.Promise sheet out (Sheet p n t) list → (buf : List ℕ) → length sheet ≤ length buf → {r : Writing} {after : List ℕ} →
-    writer.Promise (reader.shown sheet) (take (half n) list) n t buf r after →
-    (r ≡ Written (length sheet)) × (after ≡ sheet ++ drop (length sheet) buf)
-read_write sheet bytes out {p} {n} {t} {list} got buf room {r} {after} w =
+    (sheet : List ℕ) → AreBytes sheet → (out : List ℤ) {h : Trailer} {list : List ℤ} →
+    reader.Promise sheet out (Ok h) list → (buf : List ℕ) → length sheet ≤ length buf → {r : Result ℕ Refusal} {after : List ℕ} →
+    writer.Promise (reader.shown sheet) (take (half h.n) list) h.n h.t buf r after →
+    (r ≡ Ok (length sheet)) × (after ≡ sheet ++ drop (length sheet) buf)
+read_write sheet bytes out {h} {list} got buf room {r} {after} w =
     let fine = unrefused_sheet sheet out got.refused in
     let ok = sound sheet fine in
     let laid = ok.0 in
     let notes_are : reader.shown sheet ≡ take (notes_of sheet) sheet = sym (shown_all sheet fine) in
-    let scores_are : take (half n) list ≡ scores_of sheet =
+    let scores_are : take (half h.n) list ≡ scores_of sheet =
     ap₂ take (ap half got.meant.size) got.meant.scores
     ∙ take_at (scores_of sheet) (drop (half (size_of sheet)) out) (half (size_of sheet)) (length_read sheet bytes laid) in
     let w' : writer.Promise (take (notes_of sheet) sheet) (scores_of sheet) (size_of sheet) (threshold_of sheet) buf r after =

@@ -1,7 +1,7 @@
 -- S2: what is written reads back to the same p, n, t, scores and notes. The trailer's fields stand behind known parts, and
 -- the scores are read byte by byte. Assumes nothing.
 use mathlib.Core.Path.{◌≡◌, refl, sym, ◌∙◌, ap}
-use mathlib.Core.Bool.{true, not}
+use mathlib.Core.Bool.{true}
 use mathlib.Core.List.{List, [], ◌∷◌, ◌++◌, append_assoc, append-nil}
 use Prim.Native.Nat.{ℕ, ◌+◌, ◌*◌, ◌-◌, ◌≤◌, ◌<◌}
 use native.Mathlib.Omega.{arith}
@@ -11,30 +11,27 @@ use lib.IntN.{ℤ, pos}
 use mir.Syntax.{w16}
 use mir.Val.{of_z, to_z, SFits}
 use mir.ValLaws.{to_z-of_z, of_z_fits}
-use borrow.Author.Tests.{eq-eqb, not-false}
-use Rattle.graph.specs.declared.Finding.TheVariants.{Fine}
+use Rattle.std.specs.Prelude.{Result, Ok}
+use Rattle.graph.specs.declared.Refusal.{Refusal}
 use Rattle.graph.specs.Each.{each}
 use Rattle.graph.specs.Refusal.{first_of}
 use Rattle.graph.specs.Check.{too_short}
-use Rattle.graph.proofs.Refusals.{first_of_single}
-use Rattle.scores.specs.declared.Reading.{Reading}
-use Rattle.scores.specs.declared.Reading.TheVariants.{Sheet}
-use Rattle.scores.specs.declared.Writing.TheVariants.{Written}
-use Rattle.scores.specs.Scale.{on_scale, half, threshold_off, scores_off}
+use Rattle.scores.specs.Scale.{on_scale, half, scores_off}
 use Rattle.scores.specs.Sheet.{low_first, signed_bytes, score_bytes, trailer, sheet_bytes, sheet_length, field, notes_of, size_of, threshold_of, score_at, scores_of}
-use Rattle.scores.specs.Inner.{scores_in}
+use Rattle.scores.specs.declared.Trailer.{Trailer}
+use Rattle.scores.specs.Inner.{scores_in, trailer_of}
 use Rattle.scores.specs.Reader as reader
 use Rattle.scores.specs.Writer as writer
-use Rattle.scores.proofs.Checking.{fine_out, fine_first}
-use Rattle.scores.proofs.ScoreFaults.{each_on}
+use Rattle.scores.proofs.Checking.{fine_first}
+use Rattle.scores.proofs.ScoreFaults.{each_on, scores_next, both_on}
 use Rattle.scores.proofs.Places.{half_twice}
-use Rattle.scores.proofs.OnScale.{on_lift}
+use Rattle.scores.proofs.OnScale.{on_fits}
 use Rattle.scores.proofs.Squares.{length_each, each_at}
 use Rattle.scores.proofs.Fields.{length_low, field_at, field_two}
-use Rattle.scores.proofs.Puts.{length_scores, low_byte, high_byte}
-use Rattle.scores.proofs.Sheets.{as_long, laid_out, scores_decide}
+use Rattle.scores.proofs.Puts.{length_scores, length_trailer, low_byte, high_byte}
+use Rattle.scores.proofs.Sheets.{right_length, laid_out, scale_decides}
 use Rattle.scores.proofs.Readings.{read_all, shown_all}
-use Rattle.scores.proofs.Writings.{length_trailer, writable}
+use Rattle.scores.proofs.Writings.{writable}
 use Rattle.scores.proofs.Determined.{reading_determined}
 
 module _
@@ -46,7 +43,7 @@ module _
     (count : length scores ≡ half n)
     (short : length notes ≤ 32768)
     (on-t : on_scale t ≡ true)
-    (on : Fine ≡ scores_off n scores) where
+    (on : Ok tt ≡ scores_off n scores) where
   abbrev p : ℕ
   p = length notes
 
@@ -68,7 +65,7 @@ module _
   behind = omega (arith, length_front, length_sheet, half_twice n)
 
   fits_t : SFits w16 t
-  fits_t = (on_lift t on-t).2
+  fits_t = on_fits t on-t
 
   -- the trailer's fields
   pub notes_back : notes_of sheet ≡ p
@@ -114,7 +111,7 @@ module _
   score_back k h =
       let z : ℤ = get_or scores k (pos 0) in
       let v : ℕ = of_z w16 z in
-      let fits : SFits w16 z = (on_lift z (each_on n scores on k (omega arith))).2 in
+      let fits : SFits w16 z = on_fits z (each_on n scores on k (omega arith)) in
       let small : v < 65536 = (of_z_fits w16 z fits).fits in
       let low = byte_back (2 * k) (omega arith) ∙ low_byte scores k h in
       let next : p + 2 * k + 1 ≡ p + (2 * k + 1) = omega arith in
@@ -133,13 +130,13 @@ module _
       each_at (half n) (score_at sheet p) k (pos 0) l ∙ score_back k (omega arith))
 
   -- the reader takes it
-  pub fine_back : Fine ≡ reader.sheet_fault sheet
+  pub fine_back : Ok tt ≡ reader.sheet_fault sheet
   fine_back =
       let long : length sheet ≡ sheet_length (notes_of sheet) (size_of sheet) = rw (notes_back, size_back) length_sheet in
       let room : 8 ≤ length sheet = omega (arith, length_sheet) in
       let small : size_of sheet ≤ 128 = omega (arith, size_back) in
-      let right = laid_out sheet room small (sym (as_long sheet (notes_of sheet) (size_of sheet) (omega (arith, notes_back))) ∙ eq-eqb _ _ long) in
-      scores_decide sheet right (ap on_scale threshold_back ∙ on-t) Fine (rw (size_back, scores_back) on)
+      let right = laid_out sheet room small (right_length sheet (notes_of sheet) (size_of sheet) (omega (arith, notes_back)) long) in
+      scale_decides sheet right (scores_next (size_of sheet) (scores_of sheet) (threshold_of sheet) (ap on_scale threshold_back ∙ on-t) (rw (size_back, scores_back) on))
 
   pub notes_shown : reader.shown sheet ≡ notes
   unfolding sheet_bytes
@@ -150,13 +147,7 @@ module _
       ∙ take_at notes (score_bytes scores ++ trailer p n t) p refl
 
 -- the writer refused nothing
-on_both : (n : ℕ) (t : ℤ) (scores : List ℤ) → Fine ≡ first_of (threshold_off t ∷ scores_off n scores ∷ []) → (on_scale t ≡ true) × (Fine ≡ scores_off n scores)
-unfolding threshold_off
-on_both n t scores e =
-    let a = fine_out 5 (not (on_scale t)) (scores_off n scores ∷ []) e in
-    (not-false (on_scale t) a.0, a.1 ∙ first_of_single (scores_off n scores))
-
-pub unrefused : (notes : List ℕ) (scores : List ℤ) (n : ℕ) (t : ℤ) (buf : List ℕ) → Fine ≡ first_of (writer.checks notes scores n t buf) → Fine ≡ writer.write_fault notes scores n t
+pub unrefused : (notes : List ℕ) (scores : List ℤ) (n : ℕ) (t : ℤ) (buf : List ℕ) → Ok tt ≡ first_of (writer.checks notes scores n t buf) → Ok tt ≡ writer.write_fault notes scores n t
 unfolding writer.checks
 unrefused notes scores n t buf e =
     (fine_first (writer.write_fault notes scores n t) (too_short buf (sheet_length (length notes) n) ∷ []) e).0
@@ -164,22 +155,25 @@ unrefused notes scores n t buf e =
 -- what the writer promises, the reader and the notes give back
 pub write_read :
     (notes : List ℕ) (scores : List ℤ) (n : ℕ) (t : ℤ) (buf : List ℕ) {size : ℕ} {after : List ℕ} →
-    writer.Promise notes scores n t buf (Written size) after → (out : List ℤ) → half n ≤ length out → {r : Reading} {list : List ℤ} →
+    writer.Promise notes scores n t buf (Ok size) after → (out : List ℤ) → half n ≤ length out → {r : Result Trailer Refusal} {list : List ℤ} →
     reader.Promise (take size after) out r list →
-    (r ≡ Sheet (length notes) n t) × (list ≡ scores ++ drop (half n) out) × (reader.shown (take size after) ≡ notes)
+    (r ≡ Ok (record { p = length notes; n = n; t = t })) × (list ≡ scores ++ drop (half n) out) × (reader.shown (take size after) ≡ notes)
 write_read notes scores n t buf {size} {after} w out room {r} {list} got =
     let ok = writable notes scores n t (unrefused notes scores n t buf w.refused) in
-    let on = on_both n t scores ok.3 in
+    let on = both_on n scores t ok.3 in
     let sheet : List ℕ = sheet_bytes notes scores n t in
     let sized = length_sheet notes scores n t ok.0 ok.1 ok.2 on.0 on.1 in
     let size_is = size_back notes scores n t ok.0 ok.1 ok.2 on.0 on.1 in
     let scores_are = scores_back notes scores n t ok.0 ok.1 ok.2 on.0 on.1 in
     let whole : take size after ≡ sheet =
     ap (take size) w.meant.1 ∙ take_at sheet (drop size buf) size (sized ∙ sym w.meant.0) in
-    let mine : reader.Promise sheet out (Sheet (length notes) n t) (paste out 0 (scores_in sheet (length notes) n) (half n)) =
+    let h : Trailer = record { p = length notes; n = n; t = t } in
+    let p_is = notes_back notes scores n t ok.0 ok.1 ok.2 on.0 on.1 in
+    let t_is = threshold_back notes scores n t ok.0 ok.1 ok.2 on.0 on.1 in
+    let same_h : h ≡ trailer_of sheet = (λ i. record { p = sym p_is i; n = sym size_is i; t = sym t_is i }) in
+    let mine : reader.Promise sheet out (Ok h) (paste out 0 (scores_in sheet (length notes) n) (half n)) =
     read_all sheet out (fine_back notes scores n t ok.0 ok.1 ok.2 on.0 on.1) (rw size_is room)
-    (sym (notes_back notes scores n t ok.0 ok.1 ok.2 on.0 on.1)) (sym size_is)
-    (sym (threshold_back notes scores n t ok.0 ok.1 ok.2 on.0 on.1)) refl in
+    same_h refl in
     let same = reading_determined sheet out (rw whole at got) mine in (
       same.0,
       same.1 ∙ mine.meant.scores ∙ rw (size_is, scores_are) refl,

@@ -4,7 +4,8 @@ use mathlib.Core.Path.{◌≡◌, refl, sym, ◌∙◌, ap}
 use mathlib.Core.Logic.{◌⊎◌, inl, inr}
 use mathlib.Core.List.{List, [], ◌∷◌, ◌++◌}
 use Prim.Native.Nat.{ℕ, zero, suc, ◌+◌, ◌*◌, ◌/◌, ◌%◌, ◌≤◌, ◌<◌}
-use native.Mathlib.Nat.{suc-mul, zero-mul, mul-le-mul_right, mod-lt, div-add-mod', div-lt_iff_lt-mul}
+use native.Mathlib.Nat.{suc-mul, zero-mul, mul-le-mul_right, mod-lt, div-lt_iff_lt-mul}
+use native.Mathlib.Numerals.{add-one}
 use native.Mathlib.Omega.{arith}
 use lib.ListN.{length, get_or, set, length-append, get_or-append}
 use lib.Seq.{paste, get_or-append-add, get_or_at}
@@ -78,14 +79,16 @@ row_column n c h =
     some zero c h = absurd (omega (arith, zero-mul 0))
     some (suc n) c h = omega arith
 
-square_entry : (n : ℕ) (f : ℕ → ℕ → ℕ) (c : ℕ) → c < n * n → get_or (square n f) c 0 ≡ f (c / n) (c % n)
-square_entry n f c h =
-    let at = row_column n c h in
-    ap (λ x. get_or (square n f) x 0) (sym (div-add-mod' c n)) ∙ square_at n f (c / n) (c % n) at.0 at.1
+-- a matrix written entry by entry, row by row: one more entry, and the end of a row
+module _ (n : ℕ) (f : ℕ → ℕ → ℕ) (old : List ℕ) {now : List ℕ} (i j : ℕ) (so_far : now ≡ paste old 0 (square n f) (i * n + j)) where
+  pub square_more : n * n ≤ length old → {v : ℕ} → i < n → j < n → v ≡ f i j → set now (i * n + j) v ≡ paste old 0 (square n f) (i * n + (j + 1))
+  square_more room hi hj e =
+      let inside : i * n + j < n * n = omega (arith, suc-mul i n, mul-le-mul_right n hi) in
+      let next : i * n + j + 1 ≡ i * n + (j + 1) = omega arith in
+      one_more old (square n f) (length_square n f) room (i * n + j) so_far 0 inside (e ∙ sym (square_at n f i j hi hj))
+      ∙ ap (λ (x : ℕ). paste old 0 (square n f) x) next
 
--- a matrix written entry by entry: one more
-pub square_more :
-    (n : ℕ) (f : ℕ → ℕ → ℕ) (old : List ℕ) → n * n ≤ length old → {now : List ℕ} (c : ℕ) → now ≡ paste old 0 (square n f) c →
-    {v : ℕ} → c < n * n → v ≡ f (c / n) (c % n) → set now c v ≡ paste old 0 (square n f) (c + 1)
-square_more n f old room c so_far h e =
-    one_more old (square n f) (length_square n f) room c so_far 0 h (e ∙ sym (square_entry n f c h))
+  pub square_row : j ≡ n → now ≡ paste old 0 (square n f) ((i + 1) * n)
+  square_row e =
+      let next : i * n + j ≡ (i + 1) * n = omega (arith, suc-mul i n, ap (λ (x : ℕ). x * n) (add-one i)) in
+      so_far ∙ ap (λ (x : ℕ). paste old 0 (square n f) x) next

@@ -9,26 +9,22 @@ use lib.IntN.{ℤ}
 use lib.Dec.{ltb}
 use borrow.Author.Tests.{lt-ltb, le-ltb, ltb-false}
 use borrow.Rule.Slice.PartMut.{put_mid}
-use Rattle.graph.specs.declared.Finding.{Finding}
-use Rattle.graph.specs.declared.Finding.TheVariants.{Fine, Fault}
-use Rattle.graph.specs.Refusal.{first_of}
+use Rattle.std.specs.Prelude.{Ok, Err}
+use Rattle.graph.specs.declared.Refusal.{Refusal}
+use Rattle.graph.specs.declared.Refusal.TheVariants.{TooManyVertices, WrongLength, NoRoom, BadSheet}
+use Rattle.graph.specs.Refusal.{Finding, first_of}
 use Rattle.graph.specs.Check.{too_many, too_short}
 use Rattle.graph.proofs.Refusals.{first_of_single}
-use Rattle.scores.specs.declared.Writing.TheVariants.{Refused, Written}
 use Rattle.scores.specs.Scale.{half, threshold_off, scores_off}
-use Rattle.scores.specs.Sheet.{low_first, signed_bytes, score_bytes, trailer, sheet_bytes, sheet_length}
+use Rattle.scores.specs.Sheet.{score_bytes, trailer, sheet_bytes, sheet_length}
 use Rattle.scores.specs.Drawing.{wrong_count}
 use Rattle.scores.specs.Writer.{long_notes, write_fault, checks, Promise}
 use Rattle.scores.proofs.Checking.{hit, pass, done, fine_out, decided, left_over}
 use Rattle.scores.proofs.Drawings.{counted}
 use Rattle.scores.proofs.Places.{half_twice}
 use Rattle.scores.proofs.Pasting.{pasted}
-use Rattle.scores.proofs.Puts.{length_scores}
+use Rattle.scores.proofs.Puts.{length_scores, length_trailer}
 use Rattle.scores.proofs.Growing.{grown}
-
-pub length_trailer : (p n : ℕ) (t : ℤ) → length (trailer p n t) ≡ 8
-unfolding trailer signed_bytes low_first
-length_trailer p n t = refl
 
 -- the notes from the start, the scores lent on behind them, the trailer lent on behind those
 pub sheet_put :
@@ -67,55 +63,55 @@ module _ (notes : List ℕ) (scores : List ℤ) (n : ℕ) (t : ℤ) where
   abbrev offs : List Finding
   offs = threshold_off t ∷ scores_off n scores ∷ []
 
-  pub count_first : {number i j : ℕ} (x : Finding) → x ≡ Fault number i j → x ≡ first_of counts → x ≡ write_fault notes scores n t
+  pub count_first : {r : Refusal} → Err r ≡ first_of counts → Err r ≡ write_fault notes scores n t
   unfolding write_fault
-  count_first x told e = decided counts (long_notes notes ∷ offs) told e
+  count_first e = decided counts (long_notes notes ∷ offs) refl e
 
-  module _ (right : Fine ≡ first_of counts) where
-    pub notes_long : 32768 < length notes → Fault 11 0 0 ≡ write_fault notes scores n t
+  module _ (right : Ok tt ≡ first_of counts) where
+    pub notes_long : 32768 < length notes → Err BadSheet ≡ write_fault notes scores n t
     unfolding write_fault long_notes
-    notes_long h = hit 11 offs (lt-ltb _ _ h) ∙ left_over counts (long_notes notes ∷ offs) right
+    notes_long h = hit BadSheet offs (lt-ltb _ _ h) ∙ left_over counts (long_notes notes ∷ offs) right
 
-    pub scale_decides : length notes ≤ 32768 → (x : Finding) → x ≡ first_of offs → x ≡ write_fault notes scores n t
+    pub scale_decides : length notes ≤ 32768 → {x : Finding} → x ≡ first_of offs → x ≡ write_fault notes scores n t
     unfolding write_fault long_notes
-    scale_decides h x e = e ∙ pass 11 offs (le-ltb _ _ h) ∙ left_over counts (long_notes notes ∷ offs) right
+    scale_decides h e = e ∙ pass BadSheet offs (le-ltb _ _ h) ∙ left_over counts (long_notes notes ∷ offs) right
 
   -- what the writer would refuse for nothing but room
-  pub writable : Fine ≡ write_fault notes scores n t → (n ≤ 128) × (length scores ≡ half n) × (length notes ≤ 32768) × (Fine ≡ first_of offs)
+  pub writable : Ok tt ≡ write_fault notes scores n t → (n ≤ 128) × (length scores ≡ half n) × (length notes ≤ 32768) × (Ok tt ≡ first_of offs)
   unfolding write_fault long_notes too_many wrong_count
   writable e =
-      let a = fine_out 1 (ltb 128 n) _ e in
-      let b = fine_out 2 _ (long_notes notes ∷ offs) a.1 in
-      let d = fine_out 11 (ltb 32768 (length notes)) offs b.1 in
-      let ok = counted n scores (done ∙ pass 2 [] b.0 ∙ pass 1 (wrong_count scores n ∷ []) a.0) in
+      let a = fine_out TooManyVertices (ltb 128 n) _ e in
+      let b = fine_out WrongLength _ (long_notes notes ∷ offs) a.1 in
+      let d = fine_out BadSheet (ltb 32768 (length notes)) offs b.1 in
+      let ok = counted n scores (done ∙ pass WrongLength [] b.0 ∙ pass TooManyVertices (wrong_count scores n ∷ []) a.0) in
       (ok.0, ok.1, ltb-false _ _ d.0, d.1)
 
   module _ (buf : List ℕ) where
     abbrev room : List Finding
     room = too_short buf (sheet_length (length notes) n) ∷ []
 
-    pub refused_write : {number i j : ℕ} → Fault number i j ≡ write_fault notes scores n t → Promise notes scores n t buf (Refused number i j) buf
+    pub refused_write : {r : Refusal} → Err r ≡ write_fault notes scores n t → Promise notes scores n t buf (Err r) buf
     unfolding checks
     refused_write e = record {
       refused = decided (write_fault notes scores n t ∷ []) room refl (e ∙ sym (first_of_single (write_fault notes scores n t)));
       meant = refl;
     }
 
-    module _ (right : Fine ≡ write_fault notes scores n t) where
+    module _ (right : Ok tt ≡ write_fault notes scores n t) where
       rest : first_of room ≡ first_of (checks notes scores n t buf)
       unfolding checks
       rest = left_over (write_fault notes scores n t ∷ []) room (right ∙ sym (first_of_single (write_fault notes scores n t)))
 
-      pub refused_room : length buf < sheet_length (length notes) n → Promise notes scores n t buf (Refused 10 0 0) buf
+      pub refused_room : length buf < sheet_length (length notes) n → Promise notes scores n t buf (Err NoRoom) buf
       unfolding too_short
-      refused_room h = record { refused = hit 10 [] (lt-ltb _ _ h) ∙ rest; meant = refl }
+      refused_room h = record { refused = hit NoRoom [] (lt-ltb _ _ h) ∙ rest; meant = refl }
 
       pub wrote :
           {size : ℕ} {after : List ℕ} {u : ℤ} → size ≡ sheet_length (length notes) n → size ≤ length buf → u ≡ t →
-          after ≡ sheet_bytes notes scores n u ++ drop (sheet_length (length notes) n) buf → Promise notes scores n t buf (Written size) after
+          after ≡ sheet_bytes notes scores n u ++ drop (sheet_length (length notes) n) buf → Promise notes scores n t buf (Ok size) after
       unfolding too_short
       wrote {size} {after} {u} es h same e = record {
-        refused = done ∙ pass 10 [] (le-ltb (length buf) (sheet_length (length notes) n) (omega arith)) ∙ rest;
+        refused = done ∙ pass NoRoom [] (le-ltb (length buf) (sheet_length (length notes) n) (omega arith)) ∙ rest;
         meant = (
           es,
           e ∙ ap (λ (z : ℤ). sheet_bytes notes scores n z ++ drop (sheet_length (length notes) n) buf) same

@@ -1,26 +1,13 @@
 -- What the inner functions promise their callers. No entry point's promise cites a definition of this file. Assumes nothing.
-use Rattle.std.specs.Prelude.{◌≡◌, ℕ, ◌+◌, ◌-◌, ◌≤◌, ◌<◌, Bool, true, false, List, [], ◌∷◌, ℤ, pos, negsuc}
-use Rattle.graph.specs.declared.Finding.{Finding}
-use Rattle.graph.specs.declared.Finding.TheVariants.{Fine, Fault}
+use Rattle.std.specs.Prelude.{ℕ, List, [], ◌∷◌, ℤ}
 use Rattle.graph.specs.Each.{each}
-use Rattle.scores.specs.Scale.{half, place}
-use Rattle.scores.specs.Sheet.{score_at}
+use Rattle.scores.specs.Scale.{half}
+use Rattle.scores.specs.Sheet.{notes_of, size_of, threshold_of, score_at}
+use Rattle.scores.specs.declared.Trailer.{Trailer}
 
--- z + 32,768: how the code compares and subtracts signed numbers
-unfoldable pub lift : ℤ → ℕ
-lift (pos n) = 32768 + n
-lift (negsuc n) = 32767 - n
-
--- of the first m numbers, r is the first that is off, or m where none is
-pub record FirstOff (on : ℕ → Bool) (m r : ℕ) : Type 0 where
-  pub inside : r ≤ m
-  pub before : (k : ℕ) → k < r → on k ≡ true
-  pub here : r < m → on r ≡ false
-
--- the fault 5 of the pair whose place is k
-abbrev pub FaultAt : ℕ → ℕ → Finding → Type 0
-FaultAt n k Fine = ⊥
-FaultAt n k (Fault number i j) = (number ≡ 5) × (i < j) × (j < n) × (place n i j ≡ k)
+-- p, n and t of a sheet
+abbrev pub trailer_of : List ℕ → Trailer
+trailer_of sheet = record { p = notes_of sheet; n = size_of sheet; t = threshold_of sheet }
 
 -- the n(n-1)/2 scores behind p bytes of notes
 abbrev pub scores_in : List ℕ → ℕ → ℕ → List ℤ

@@ -1,18 +1,17 @@
 -- What `read` and `notes` promise, for every sheet: the refusal, p, n and t, and what the lent list holds afterwards.
 -- Assumes nothing.
-use Rattle.std.specs.Prelude.{◌≡◌, ℕ, Bool, not, ◌||◌, List, [], ◌∷◌, ◌++◌, length, take, drop, ltb, eqb, ℤ}
-use Rattle.graph.specs.declared.Finding.{Finding}
-use Rattle.graph.specs.declared.Finding.TheVariants.{Fine, Fault}
-use Rattle.graph.specs.Refusal.{row, first_of}
+use Rattle.std.specs.Prelude.{◌≡◌, ℕ, Bool, not, ◌||◌, List, [], ◌∷◌, ◌++◌, length, take, drop, ltb, eqb, ℤ, Result, Ok, Err}
+use Rattle.graph.specs.declared.Refusal.{Refusal}
+use Rattle.graph.specs.declared.Refusal.TheVariants.{NoRoom, BadSheet}
+use Rattle.graph.specs.Refusal.{Finding, row, first_of, refusal}
 use Rattle.graph.specs.Check.{too_many}
-use Rattle.scores.specs.declared.Reading.{Reading}
-use Rattle.scores.specs.declared.Reading.TheVariants.{Refused, Sheet}
+use Rattle.scores.specs.declared.Trailer.{Trailer}
 use Rattle.scores.specs.Scale.{half, threshold_off, scores_off}
 use Rattle.scores.specs.Sheet.{sheet_length, notes_of, size_of, threshold_of, scores_of}
 
 -- 10: "lent output too short": "n(n-1)/2 for .. scores"
 unfoldable pub no_room : List ℤ → ℕ → Finding
-no_room out n = row 10 (ltb (length out) (half n))
+no_room out n = row NoRoom (ltb (length out) (half n))
 
 -- 11: "p too large, or wrong length": "p at most 32,768", "exactly p + n(n-1) + 8"
 unfoldable pub wrong_layout : List ℕ → ℕ → ℕ → Bool
@@ -22,9 +21,9 @@ wrong_layout sheet p n = ltb 32768 p || not (eqb (length sheet) (sheet_length p 
 unfoldable pub layout_fault : List ℕ → Finding
 layout_fault sheet =
     first_of
-    (row 11 (ltb (length sheet) 8)
+    (row BadSheet (ltb (length sheet) 8)
     ∷ too_many (size_of sheet)
-    ∷ row 11 (wrong_layout sheet (notes_of sheet) (size_of sheet))
+    ∷ row BadSheet (wrong_layout sheet (notes_of sheet) (size_of sheet))
     ∷ [])
 
 unfoldable pub sheet_fault : List ℕ → Finding
@@ -34,11 +33,6 @@ sheet_fault sheet =
 unfoldable pub checks : List ℕ → List ℤ → List Finding
 checks sheet out = sheet_fault sheet ∷ no_room out (size_of sheet) ∷ []
 
--- this paper's number and place of each answer
-abbrev pub refusal : Reading → Finding
-refusal (Refused number i j) = Fault number i j
-refusal (Sheet p n t) = Fine
-
 -- "The reader fills the first n(n-1)/2 scores of the lent list and gives p, n and t"
 pub record Filled (sheet : List ℕ) (out : List ℤ) (p n : ℕ) (t : ℤ) (after : List ℤ) : Type 0 where
   pub behind : p ≡ notes_of sheet
@@ -46,18 +40,18 @@ pub record Filled (sheet : List ℕ) (out : List ℤ) (p n : ℕ) (t : ℤ) (aft
   pub threshold : t ≡ threshold_of sheet
   pub scores : after ≡ scores_of sheet ++ drop (half (size_of sheet)) out
 
-abbrev pub Meant : List ℕ → List ℤ → Reading → List ℤ → Type 0
-Meant sheet out (Refused number i j) after = after ≡ out
-Meant sheet out (Sheet p n t) after = Filled sheet out p n t after
+abbrev pub Meant : List ℕ → List ℤ → Result Trailer Refusal → List ℤ → Type 0
+Meant sheet out (Err r) after = after ≡ out
+Meant sheet out (Ok h) after = Filled sheet out h.p h.n h.t after
 
-pub record Promise (sheet : List ℕ) (out : List ℤ) (r : Reading) (after : List ℤ) : Type 0 where
+pub record Promise (sheet : List ℕ) (out : List ℤ) (r : Result Trailer Refusal) (after : List ℤ) : Type 0 where
   pub refused : refusal r ≡ first_of (checks sheet out)
   pub meant : Meant sheet out r after
 
 -- "a second call shows the notes as a part of the sheet, empty if the reader would refuse it for anything but room"
 abbrev pub if_fine : Finding → List ℕ → List ℕ
-if_fine Fine xs = xs
-if_fine (Fault number i j) xs = []
+if_fine (Ok done) xs = xs
+if_fine (Err r) xs = []
 
 unfoldable pub shown : List ℕ → List ℕ
 shown sheet = if_fine (sheet_fault sheet) (take (notes_of sheet) sheet)

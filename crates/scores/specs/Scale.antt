@@ -1,11 +1,10 @@
 -- The scale, the score rule and the order of the pairs ("Graphs, prices, scores"). Assumes nothing.
-use Rattle.std.specs.Prelude.{ℕ, zero, suc, ◌+◌, ◌*◌, ◌-◌, ◌/◌, Bool, not, ◌&&◌, List, [], ◌∷◌, get_or, ltb, eqb, ℤ, pos, negsuc, nat_abs, ◌-ℤ◌}
+use Rattle.std.specs.Prelude.{ℕ, zero, suc, ◌+◌, ◌*◌, ◌-◌, ◌/◌, Bool, not, ◌&&◌, List, [], ◌∷◌, get_or, ltb, eqb, ℤ, pos, negsuc, nat_abs, ◌-ℤ◌, Ok, Err}
 use Rattle.std.specs.Int.Signed.{lt_z, le_z}
 use Rattle.bits.specs.Choice.{pick}
-use Rattle.graph.specs.declared.Finding.{Finding}
-use Rattle.graph.specs.declared.Finding.TheVariants.{Fine, Fault}
+use Rattle.graph.specs.declared.Refusal.TheVariants.{OffScale}
 use Rattle.graph.specs.Each.{each, only}
-use Rattle.graph.specs.Refusal.{row, first_of}
+use Rattle.graph.specs.Refusal.{Finding, row, first_of}
 
 -- "Scores and threshold t lie in -5,000 to 5,000."
 abbrev pub on_scale : ℤ → Bool
@@ -44,11 +43,11 @@ score_of n scores i j = get_or scores (spot n i j) (pos 0)
 
 -- 5: "The threshold is tried first, place (0, 0)"
 unfoldable pub threshold_off : ℤ → Finding
-threshold_off t = row 5 (not (on_scale t))
+threshold_off t = row (OffScale 0 0) (not (on_scale t))
 
 -- 5: "threshold or score off the scale"; "the first at fault row by row", with its pair's row and column
 unfoldable pub score_off : ℕ → List ℤ → ℕ → ℕ → Finding
-score_off n scores i j = pick (on_scale (score_of n scores i j)) Fine (Fault 5 i j)
+score_off n scores i j = pick (on_scale (score_of n scores i j)) (Ok tt) (Err (OffScale i j))
 
 unfoldable pub scores_off : ℕ → List ℤ → Finding
 scores_off n scores = first_of (each n (λ i. each n (λ j. only (ltb i j) (score_off n scores i j))))

@@ -1,18 +1,16 @@
 -- What `write` promises, for every input: the refusal, the length, and what the lent buffer holds afterwards. Assumes nothing.
-use Rattle.std.specs.Prelude.{◌≡◌, ℕ, List, [], ◌∷◌, ◌++◌, length, drop, ltb, ℤ}
-use Rattle.graph.specs.declared.Finding.{Finding}
-use Rattle.graph.specs.declared.Finding.TheVariants.{Fine, Fault}
-use Rattle.graph.specs.Refusal.{row, first_of}
+use Rattle.std.specs.Prelude.{◌≡◌, ℕ, List, [], ◌∷◌, ◌++◌, length, drop, ltb, ℤ, Result, Ok, Err}
+use Rattle.graph.specs.declared.Refusal.{Refusal}
+use Rattle.graph.specs.declared.Refusal.TheVariants.{BadSheet}
+use Rattle.graph.specs.Refusal.{Finding, row, first_of, refusal}
 use Rattle.graph.specs.Check.{too_many, too_short}
-use Rattle.scores.specs.declared.Writing.{Writing}
-use Rattle.scores.specs.declared.Writing.TheVariants.{Refused, Written}
 use Rattle.scores.specs.Scale.{threshold_off, scores_off}
 use Rattle.scores.specs.Drawing.{wrong_count}
 use Rattle.scores.specs.Sheet.{sheet_length, sheet_bytes}
 
 -- 11 for the notes: "p at most 32,768"
 unfoldable pub long_notes : List ℕ → Finding
-long_notes notes = row 11 (ltb 32768 (length notes))
+long_notes notes = row BadSheet (ltb 32768 (length notes))
 
 -- "Writing: 1, 2, 11 for the notes, 5, 10": all but the room
 unfoldable pub write_fault : List ℕ → List ℤ → ℕ → ℤ → Finding
@@ -23,15 +21,10 @@ write_fault notes scores n t =
 unfoldable pub checks : List ℕ → List ℤ → ℕ → ℤ → List ℕ → List Finding
 checks notes scores n t buf = write_fault notes scores n t ∷ too_short buf (sheet_length (length notes) n) ∷ []
 
--- this paper's number and place of each answer
-abbrev pub refusal : Writing → Finding
-refusal (Refused number i j) = Fault number i j
-refusal (Written size) = Fine
-
 -- "bytes behind the sheet stay"; "every lent buffer is then unchanged" of a refusal
-abbrev pub Meant : List ℕ → List ℤ → ℕ → ℤ → List ℕ → Writing → List ℕ → Type 0
-Meant notes scores n t buf (Refused number i j) after = after ≡ buf
-Meant notes scores n t buf (Written size) after =
+abbrev pub Meant : List ℕ → List ℤ → ℕ → ℤ → List ℕ → Result ℕ Refusal → List ℕ → Type 0
+Meant notes scores n t buf (Err r) after = after ≡ buf
+Meant notes scores n t buf (Ok size) after =
     (size ≡ sheet_length (length notes) n) × (after ≡ sheet_bytes notes scores n t ++ drop size buf)
 
 pub record Promise
@@ -40,7 +33,7 @@ pub record Promise
     (n : ℕ)
     (t : ℤ)
     (buf : List ℕ)
-    (r : Writing)
+    (r : Result ℕ Refusal)
     (after : List ℕ) : Type 0 where
   pub refused : refusal r ≡ first_of (checks notes scores n t buf)
   pub meant : Meant notes scores n t buf r after

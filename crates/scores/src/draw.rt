@@ -5,37 +5,19 @@ ghost use Rattle.scores.specs.Scale.{half, edge_byte, price_entry, square};
 
 use crate::scale;
 
-// The graph's entry at row i, column j.
-fn edge_entry(n: usize, t: i16, scores: &[i16], i: usize, j: usize) -> u8
+// The graph's entry and the price at row i, column j.
+fn entry(n: usize, t: i16, scores: &[i16], i: usize, j: usize) -> (u8, u16)
     requires n_bound { n ≤ 128 }
     requires scores_len { length scores.now ≡ half n }
     requires i_lt_n { i < n }
     requires j_lt_n { j < n }
-    ensures { result ≡ edge_byte n t scores.now i j }
+    ensures { (result.0 ≡ edge_byte n t scores.now i j) × (result.1 ≡ price_entry n t scores.now i j) }
 {
     if i == j {
-        return 0;
+        return (0, 0);
     }
     let s = scores[scale::spot_of(n, i, j)];
-    if scale::is_edge(s, t) {
-        return 1;
-    }
-    0
-}
-
-// The price at row i, column j.
-fn price_entry(n: usize, t: i16, scores: &[i16], i: usize, j: usize) -> u16
-    requires n_bound { n ≤ 128 }
-    requires scores_len { length scores.now ≡ half n }
-    requires i_lt_n { i < n }
-    requires j_lt_n { j < n }
-    ensures { result ≡ price_entry n t scores.now i j }
-{
-    if i == j {
-        return 0;
-    }
-    let s = scores[scale::spot_of(n, i, j)];
-    scale::price(s, t)
+    (u8::from(scale::is_edge(s, t)), scale::price(s, t))
 }
 
 // Both matrices, row by row.
@@ -46,15 +28,11 @@ pub fn draw(n: usize, t: i16, scores: &[i16], graph: &mut [u8], prices: &mut [u1
     requires n_in_bounds_2 { n * n ≤ length prices.old }
     ensures { (graph.new ≡ paste graph.old 0 (square n (edge_byte n t scores.now)) (n * n)) × (prices.new ≡ paste prices.old 0 (square n (price_entry n t scores.now)) (n * n)) }
 {
-    let all = n * n;
-    let mut c = 0;
-    while c < all {
-        let i = c / n;
-        let j = c % n;
-        let edge = edge_entry(n, t, scores, i, j);
-        let price = price_entry(n, t, scores, i, j);
-        graph[c] = edge;
-        prices[c] = price;
-        c += 1;
+    for i in 0..n {
+        for j in 0..n {
+            let (edge, price) = entry(n, t, scores, i, j);
+            graph[i * n + j] = edge;
+            prices[i * n + j] = price;
+        }
     }
 }

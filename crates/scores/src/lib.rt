@@ -8,148 +8,64 @@ ghost use Rattle.scores.specs.Drawing.{Promise as Drawn};
 ghost use Rattle.scores.specs.Reader.{Promise as Read, shown};
 ghost use Rattle.scores.specs.Writer.{Promise as Wrote, write_fault};
 
-use graph::Finding;
+use graph::Refusal;
 
 mod draw;
 mod scale;
 mod sheet;
-mod signed;
 
-// What `read` answers: a refusal with its number and place, or the sheet's p, n and t.
-#[derive(Clone, Copy)]
-pub enum Reading {
-    Refused {
-        number: u32,
-        row: usize,
-        column: usize,
-    },
-    Sheet {
-        p: usize,
-        n: usize,
-        t: i16,
-    },
-}
-
-// What `write` answers: a refusal with its number and place, or the sheet's length.
-#[derive(Clone, Copy)]
-pub enum Writing {
-    Refused {
-        number: u32,
-        row: usize,
-        column: usize,
-    },
-    Written {
-        size: usize,
-    },
+// What a sheet says of itself: how many bytes of notes it has, how many vertices, and the threshold.
+#[derive(Clone, Copy, Debug, PartialEq, Eq)]
+pub struct Trailer {
+    pub p: usize,
+    pub n: usize,
+    pub t: i16,
 }
 
 // The graph and the prices of the scores of n vertices under the threshold t.
-pub fn to_graph(n: usize, t: i16, scores: &[i16], graph: &mut [u8], prices: &mut [u16]) -> Finding
+pub fn to_graph(n: usize, t: i16, scores: &[i16], graph: &mut [u8], prices: &mut [u16]) -> Result<(), Refusal>
     ensures { Drawn n t scores.now graph.old prices.old result graph.new prices.new }
 {
-    let count = scale::count_fault(n, scores);
-    if let Finding::Fault {
-        number: _,
-        row: _,
-        column: _,
-    } = count
-    {
-        return count;
-    }
-    let off = scale::scale_fault(n, t, scores);
-    if let Finding::Fault {
-        number: _,
-        row: _,
-        column: _,
-    } = off
-    {
-        return off;
-    }
-    if graph.len() < n * n {
-        return Finding::Fault {
-            number: 10,
-            row: 0,
-            column: 0,
-        };
-    }
-    if prices.len() < n * n {
-        return Finding::Fault {
-            number: 10,
-            row: 0,
-            column: 0,
-        };
+    scale::count_fault(n, scores)?;
+    scale::scale_fault(n, t, |k| scores[k])?;
+    if graph.len() < n * n || prices.len() < n * n {
+        return Err(Refusal::NoRoom);
     }
     draw::draw(n, t, scores, graph, prices);
-    Finding::Fine
+    Ok(())
 }
 
 // Reads a sheet: the scores into the lent list, and p, n and t.
-pub fn read(sheet: &[u8], scores: &mut [i16]) -> Reading
+pub fn read(sheet: &[u8], scores: &mut [i16]) -> Result<Trailer, Refusal>
     ensures { Read sheet.now scores.old result scores.new }
 {
-    if let Finding::Fault {
-        number,
-        row,
-        column,
-    } = sheet::sheet_fault(sheet)
-    {
-        return Reading::Refused {
-            number,
-            row,
-            column,
-        };
+    let trailer = sheet::sheet_fault(sheet)?;
+    if scores.len() < scale::half_of(trailer.n) {
+        return Err(Refusal::NoRoom);
     }
-    let n = sheet::size_of(sheet);
-    if scores.len() < scale::half_of(n) {
-        return Reading::Refused {
-            number: 10,
-            row: 0,
-            column: 0,
-        };
-    }
-    let p = sheet::notes_of(sheet);
-    let t = sheet::threshold_of(sheet);
-    sheet::take_scores(sheet, p, n, scores);
-    Reading::Sheet { p, n, t }
+    sheet::take_scores(sheet, trailer.p, trailer.n, scores);
+    Ok(trailer)
 }
 
 // The notes, as a part of the sheet; empty where the reader would refuse the sheet for anything but room.
 pub fn notes(sheet: &[u8]) -> &[u8]
     ensures { result.now ≡ shown sheet.now }
 {
-    if let Finding::Fault {
-        number: _,
-        row: _,
-        column: _,
-    } = sheet::sheet_fault(sheet)
-    {
-        return &sheet[0..0];
+    match sheet::sheet_fault(sheet) {
+        Ok(trailer) => &sheet[..trailer.p],
+        Err(_) => &sheet[..0],
     }
-    let p = sheet::notes_of(sheet);
-    &sheet[0..p]
 }
 
 // All that the writer refuses but the room.
-fn write_fault(notes: &[u8], scores: &[i16], n: usize, t: i16) -> Finding
+fn write_fault(notes: &[u8], scores: &[i16], n: usize, t: i16) -> Result<(), Refusal>
     ensures { result ≡ write_fault notes.now scores.now n t }
 {
-    let count = scale::count_fault(n, scores);
-    if let Finding::Fault {
-        number: _,
-        row: _,
-        column: _,
-    } = count
-    {
-        return count;
-    }
+    scale::count_fault(n, scores)?;
     if 32768 < notes.len() {
-        return Finding::Fault {
-            number: 11,
-            row: 0,
-            column: 0,
-        };
+        return Err(Refusal::BadSheet);
     }
-    scale::scale_fault(n, t, scores)
+    scale::scale_fault(n, t, |k| scores[k])
 }
 
 // The sheet's bytes, from the buffer's start.
@@ -164,33 +80,18 @@ fn put_sheet(buf: &mut [u8], notes: &[u8], scores: &[i16], n: usize, t: i16)
     sheet::put_notes(buf, notes);
     sheet::put_scores(&mut buf[p..], scores);
     let q = p + 2 * scores.len();
-    sheet::put_trailer(&mut buf[q..], p, n, t);
+    sheet::put_trailer(&mut buf[q..], Trailer { p, n, t });
 }
 
 // Writes a sheet from the buffer's start, and gives its length.
-pub fn write(notes: &[u8], scores: &[i16], n: usize, t: i16, buf: &mut [u8]) -> Writing
+pub fn write(notes: &[u8], scores: &[i16], n: usize, t: i16, buf: &mut [u8]) -> Result<usize, Refusal>
     ensures { Wrote notes.now scores.now n t buf.old result buf.new }
 {
-    if let Finding::Fault {
-        number,
-        row,
-        column,
-    } = write_fault(notes, scores, n, t)
-    {
-        return Writing::Refused {
-            number,
-            row,
-            column,
-        };
-    }
+    write_fault(notes, scores, n, t)?;
     let size = sheet::length_of(notes.len(), n);
     if buf.len() < size {
-        return Writing::Refused {
-            number: 10,
-            row: 0,
-            column: 0,
-        };
+        return Err(Refusal::NoRoom);
     }
     put_sheet(buf, notes, scores, n, t);
-    Writing::Written { size }
+    Ok(size)
 }

@@ -1,22 +1,23 @@
 // The sheet's fields: numbers read from bytes and written to bytes, low byte first, and the scores among them.
-ghost use Rattle.std.specs.Prelude.{◌≡◌, not, ◌+◌, ◌*◌, ◌/◌, ◌%◌, ◌≤◌, ◌<◌, length, set};
+ghost use Rattle.std.specs.Prelude.{◌≡◌, ◌+◌, ◌*◌, ◌≤◌, ◌<◌, length, IfOk};
 ghost use Rattle.std.proofs.Math.Seq.{paste};
 ghost use Rattle.std.specs.Int.{w16};
 ghost use Rattle.std.proofs.Common.{to_z};
-ghost use Rattle.scores.specs.Scale.{on_scale, half, scores_off};
-ghost use Rattle.scores.specs.Sheet.{field, score_at, sheet_length, score_bytes, trailer, notes_of, size_of, threshold_of};
-ghost use Rattle.scores.specs.Reader.{wrong_layout, layout_fault, sheet_fault};
-ghost use Rattle.scores.specs.Inner.{FirstOff, scores_in};
+ghost use Rattle.graph.specs.Refusal.{refusal};
+ghost use Rattle.scores.specs.Scale.{half};
+ghost use Rattle.scores.specs.Sheet.{field, score_at, sheet_length, score_bytes, trailer as trailer_bytes};
+ghost use Rattle.scores.specs.Reader.{layout_fault, sheet_fault};
+ghost use Rattle.scores.specs.Inner.{scores_in, trailer_of};
 
-use crate::{scale, signed};
-use graph::Finding;
+use crate::{Trailer, scale};
+use graph::Refusal;
 
 // The number in the two bytes at a place.
 pub fn number2(s: &[u8], at: usize) -> u16
     requires { at + 2 ≤ length s.now }
     ensures { result ≡ field s.now at 2 }
 {
-    (s[at] as u16) + 256 * (s[at + 1] as u16)
+    u16::from_le_bytes([s[at], s[at + 1]])
 }
 
 // The number in the four bytes at a place.
@@ -24,7 +25,7 @@ pub fn number4(s: &[u8], at: usize) -> usize
     requires { at + 4 ≤ length s.now }
     ensures { result ≡ field s.now at 4 }
 {
-    (number2(s, at) as usize) + 65536 * (number2(s, at + 2) as usize)
+    u32::from_le_bytes([s[at], s[at + 1], s[at + 2], s[at + 3]]) as usize
 }
 
 // The signed number in the two bytes at a place.
@@ -32,61 +33,27 @@ pub fn signed2(s: &[u8], at: usize) -> i16
     requires { at + 2 ≤ length s.now }
     ensures { result ≡ to_z w16 (field s.now at 2) }
 {
-    signed::of_bits(number2(s, at))
+    i16::from_le_bytes([s[at], s[at + 1]])
 }
 
-// The place of the first of m scores behind p bytes that is off the scale, or m.
-fn first_off(sheet: &[u8], p: usize, m: usize) -> usize
-    requires { p + 2 * m ≤ length sheet.now }
-    ensures { FirstOff (λ k. on_scale (score_at sheet.now p k)) m result }
+// The k-th score behind p bytes of notes.
+fn score_at(sheet: &[u8], p: usize, k: usize) -> i16
+    requires { p + 2 * k + 2 ≤ length sheet.now }
+    ensures { result ≡ score_at sheet.now p k }
 {
-    let mut k = 0;
-    while k < m {
-        if !scale::on_scale(signed2(sheet, p + 2 * k)) {
-            return k;
-        }
-        k += 1;
-    }
-    k
+    signed2(sheet, p + 2 * k)
 }
 
-// The first score of a sheet off the scale, with its pair.
-pub fn off_scale(sheet: &[u8], p: usize, n: usize) -> Finding
-    requires n_bound { n ≤ 128 }
-    requires sheet_len { length sheet.now ≡ sheet_length p n }
-    ensures { result ≡ scores_off n (scores_in sheet.now p n) }
-{
-    let m = scale::half_of(n);
-    let k = first_off(sheet, p, m);
-    if k < m {
-        return scale::fault_at(n, k);
-    }
-    Finding::Fine
-}
-
-// The m scores behind p bytes of notes.
+// The n(n-1)/2 scores behind p bytes of notes.
 pub fn take_scores(sheet: &[u8], p: usize, n: usize, scores: &mut [i16])
     requires n_bound { n ≤ 128 }
     requires sheet_len { length sheet.now ≡ sheet_length p n }
     requires n_in_bounds { half n ≤ length scores.old }
     ensures { scores.new ≡ paste scores.old 0 (scores_in sheet.now p n) (half n) }
 {
-    let m = scale::half_of(n);
-    let mut k = 0;
-    while k < m {
-        let s = signed2(sheet, p + 2 * k);
-        scores[k] = s;
-        k += 1;
+    for (k, s) in scores[..scale::half_of(n)].iter_mut().enumerate() {
+        *s = score_at(sheet, p, k);
     }
-}
-
-// v into the two bytes at a place.
-fn put2(buf: &mut [u8], at: usize, v: u16)
-    requires { at + 2 ≤ length buf.old }
-    ensures { buf.new ≡ set (set buf.old at (v % 256)) (at + 1) (v / 256) }
-{
-    buf[at] = (v % 256) as u8;
-    buf[at + 1] = (v / 256) as u8;
 }
 
 // The notes, from the buffer's start.
@@ -94,11 +61,7 @@ pub fn put_notes(buf: &mut [u8], notes: &[u8])
     requires { length notes.now ≤ length buf.old }
     ensures { buf.new ≡ paste buf.old 0 notes.now (length notes.now) }
 {
-    let mut k = 0;
-    while k < notes.len() {
-        buf[k] = notes[k];
-        k += 1;
-    }
+    buf[..notes.len()].copy_from_slice(notes);
 }
 
 // The scores, from the start of the part of the buffer that is lent.
@@ -106,48 +69,21 @@ pub fn put_scores(buf: &mut [u8], scores: &[i16])
     requires { 2 * length scores.now ≤ length buf.old }
     ensures { buf.new ≡ paste buf.old 0 (score_bytes scores.now) (2 * length scores.now) }
 {
-    let mut k = 0;
-    while k < scores.len() {
-        let v = signed::bits_of(scores[k]);
-        put2(buf, 2 * k, v);
-        k += 1;
+    for (k, s) in scores.iter().enumerate() {
+        buf[2 * k..2 * k + 2].copy_from_slice(&s.to_le_bytes());
     }
 }
 
 // The trailer, from the start of the part of the buffer that is lent.
-pub fn put_trailer(buf: &mut [u8], p: usize, n: usize, t: i16)
+pub fn put_trailer(buf: &mut [u8], trailer: Trailer)
     requires in_bounds { 8 ≤ length buf.old }
-    requires p_bound { p ≤ 32768 }
-    requires n_bound { n ≤ 128 }
-    ensures { buf.new ≡ paste buf.old 0 (trailer p n t) 8 }
+    requires p_bound { trailer.p ≤ 32768 }
+    requires n_bound { trailer.n ≤ 128 }
+    ensures { buf.new ≡ paste buf.old 0 (trailer_bytes trailer.p trailer.n trailer.t) 8 }
 {
-    put2(buf, 0, p as u16);
-    put2(buf, 2, 0);
-    put2(buf, 4, n as u16);
-    let v = signed::bits_of(t);
-    put2(buf, 6, v);
-}
-
-// p, n and t of a sheet that has a trailer.
-pub fn notes_of(sheet: &[u8]) -> usize
-    requires { 8 ≤ length sheet.now }
-    ensures { result ≡ notes_of sheet.now }
-{
-    number4(sheet, sheet.len() - 8)
-}
-
-pub fn size_of(sheet: &[u8]) -> usize
-    requires { 8 ≤ length sheet.now }
-    ensures { result ≡ size_of sheet.now }
-{
-    number2(sheet, sheet.len() - 4) as usize
-}
-
-pub fn threshold_of(sheet: &[u8]) -> i16
-    requires { 8 ≤ length sheet.now }
-    ensures { result ≡ threshold_of sheet.now }
-{
-    signed2(sheet, sheet.len() - 2)
+    buf[..4].copy_from_slice(&(trailer.p as u32).to_le_bytes());
+    buf[4..6].copy_from_slice(&(trailer.n as u16).to_le_bytes());
+    buf[6..8].copy_from_slice(&trailer.t.to_le_bytes());
 }
 
 // p + n(n-1) + 8.
@@ -159,67 +95,43 @@ pub fn length_of(p: usize, n: usize) -> usize
     p + 2 * scale::half_of(n) + 8
 }
 
-// Does the sheet have the length that its p and this n ask for, and p at most 32,768?
-fn is_long(sheet: &[u8], n: usize) -> bool
-    requires in_bounds { 8 ≤ length sheet.now }
-    requires n_bound { n ≤ 128 }
-    ensures { result ≡ not (wrong_layout sheet.now (notes_of sheet.now) n) }
+// The trailer of a sheet that has one.
+fn trailer_of(sheet: &[u8]) -> Trailer
+    requires { 8 ≤ length sheet.now }
+    ensures { result ≡ trailer_of sheet.now }
 {
-    let p = notes_of(sheet);
-    if 32768 < p {
-        return false;
+    let end = sheet.len();
+    Trailer {
+        p: number4(sheet, end - 8),
+        n: number2(sheet, end - 4) as usize,
+        t: signed2(sheet, end - 2),
     }
-    sheet.len() == length_of(p, n)
 }
 
-// 11, 1 and 11: the trailer, n, and the length.
-fn layout_fault(sheet: &[u8]) -> Finding
-    ensures { result ≡ layout_fault sheet.now }
+// 11, 1 and 11: the trailer, n, and p and the length.
+fn layout_fault(sheet: &[u8]) -> Result<Trailer, Refusal>
+    ensures refused { refusal result ≡ layout_fault sheet.now }
+    ensures trailer { IfOk result (λ h. h ≡ trailer_of sheet.now) }
 {
     if sheet.len() < 8 {
-        return Finding::Fault {
-            number: 11,
-            row: 0,
-            column: 0,
-        };
+        return Err(Refusal::BadSheet);
     }
-    let n = size_of(sheet);
-    if 128 < n {
-        return Finding::Fault {
-            number: 1,
-            row: 0,
-            column: 0,
-        };
+    let trailer = trailer_of(sheet);
+    if 128 < trailer.n {
+        return Err(Refusal::TooManyVertices);
     }
-    if is_long(sheet, n) {
-        return Finding::Fine;
+    if 32768 < trailer.p || sheet.len() != length_of(trailer.p, trailer.n) {
+        return Err(Refusal::BadSheet);
     }
-    Finding::Fault {
-        number: 11,
-        row: 0,
-        column: 0,
-    }
+    Ok(trailer)
 }
 
-// All that a sheet is refused for but room.
-pub fn sheet_fault(sheet: &[u8]) -> Finding
-    ensures { result ≡ sheet_fault sheet.now }
+// All that a sheet is refused for but room, or its trailer.
+pub fn sheet_fault(sheet: &[u8]) -> Result<Trailer, Refusal>
+    ensures refused { refusal result ≡ sheet_fault sheet.now }
+    ensures trailer { IfOk result (λ h. h ≡ trailer_of sheet.now) }
 {
-    let found = layout_fault(sheet);
-    if let Finding::Fault {
-        number: _,
-        row: _,
-        column: _,
-    } = found
-    {
-        return found;
-    }
-    if scale::on_scale(threshold_of(sheet)) {
-        return off_scale(sheet, notes_of(sheet), size_of(sheet));
-    }
-    Finding::Fault {
-        number: 5,
-        row: 0,
-        column: 0,
-    }
+    let trailer = layout_fault(sheet)?;
+    scale::scale_fault(trailer.n, trailer.t, |k| score_at(sheet, trailer.p, k))?;
+    Ok(trailer)
 }

@@ -1,50 +1,50 @@
 -- `write` meets its contract: the checks in turn, then the sheet. Assumes nothing.
-use Prim.Native.Nat.{ℕ, ◌≤◌, ◌<◌}
-use lib.ListN.{length}
-use mathlib.Core.Path.{sym, ◌∙◌, ap, subst}
+use Rattle.std.proofs.Common.{rules, ◌≡◌, Err}
 use mir.Syntax.{w16}
 use mir.ValLaws.{to_z-of_z}
 use native.Mathlib.Omega.{arith}
 use Rattle.scores.proofs.Writings.{writable, refused_write, refused_room, wrote}
-use Rattle.scores.specs.Writer.{write_fault}
 use Rattle.scores.proofs.write.Goals as goal
 
-pub returns-in-Fault : goal.returns-in-Fault
-returns-in-Fault c =
-    let same = to_z-of_z w16 c.args.t c.ranges.t in
-    let e = sym c.in-Fault.is ∙ c.write_fault.ensures ∙ ap (write_fault c.args.notes.now c.args.scores.now c.args.n) same in
-    refused_write c.args.notes.now c.args.scores.now c.args.n c.args.t c.args.buf.now e
+pub returns-in_err-write_fault : goal.returns-in_err-write_fault
+returns-in_err-write_fault c =
+    let back : c.from_residual.result ≡ Err c.in_err-write_fault.field-0.0 = search rules in
+    let told = rw (to_z-of_z w16 c.args.t c.ranges.t) at c.in_err-write_fault.ensures in
+    rw back (refused_write c.args.notes.now c.args.scores.now c.args.n c.args.t c.args.buf.now told)
 
-pub length_of-size-requires : goal.length_of-size-requires
-length_of-size-requires c =
-    let same = to_z-of_z w16 c.args.t c.ranges.t in
-    let right = sym c.in_default.is ∙ c.write_fault.ensures ∙ ap (write_fault c.args.notes.now c.args.scores.now c.args.n) same in
-    let ok = writable c.args.notes.now c.args.scores.now c.args.n c.args.t right in
-    record {
-      n_bound = ok.0;
-      p_bound = omega (arith, ok.2);
-    }
+pub length_of-size-requires-clause-n_bound : goal.length_of-size-requires-clause-n_bound
+length_of-size-requires-clause-n_bound c =
+    let right = rw (to_z-of_z w16 c.args.t c.ranges.t) at c.in_ok-write_fault.ensures in
+    (writable c.args.notes.now c.args.scores.now c.args.n c.args.t right).0
+
+pub length_of-size-requires-clause-p_bound : goal.length_of-size-requires-clause-p_bound
+length_of-size-requires-clause-p_bound c =
+    let right = rw (to_z-of_z w16 c.args.t c.ranges.t) at c.in_ok-write_fault.ensures in
+    omega (arith, (writable c.args.notes.now c.args.scores.now c.args.n c.args.t right).2)
 
 pub returns-then-buf-size : goal.returns-then-buf-size
 returns-then-buf-size c =
-    let same = to_z-of_z w16 c.args.t c.ranges.t in
-    let right = sym c.in_default.is ∙ c.write_fault.ensures ∙ ap (write_fault c.args.notes.now c.args.scores.now c.args.n) same in
-    refused_room c.args.notes.now c.args.scores.now c.args.n c.args.t c.args.buf.now right (subst (λ (x : ℕ). length c.args.buf.now < x) c.length_of-size.ensures c.if-buf-size.true)
+    let right = rw (to_z-of_z w16 c.args.t c.ranges.t) at c.in_ok-write_fault.ensures in
+    let size = c.length_of-size.ensures in
+    refused_room c.args.notes.now c.args.scores.now c.args.n c.args.t c.args.buf.now right (omega arith)
 
-pub put_sheet-requires : goal.put_sheet-requires
-put_sheet-requires c =
-    let same = to_z-of_z w16 c.args.t c.ranges.t in
-    let right = sym c.in_default.is ∙ c.write_fault.ensures ∙ ap (write_fault c.args.notes.now c.args.scores.now c.args.n) same in
-    let ok = writable c.args.notes.now c.args.scores.now c.args.n c.args.t right in
-    record {
-      n_bound = ok.0;
-      scores_len = ok.1;
-      notes_len_bound = ok.2;
-      n_in_bounds = subst (λ (x : ℕ). x ≤ length c.args.buf.now) c.length_of-size.ensures c.if-buf-size.false;
-    }
+pub put_sheet-requires-clause-n_bound : goal.put_sheet-requires-clause-n_bound
+put_sheet-requires-clause-n_bound c =
+    let right = rw (to_z-of_z w16 c.args.t c.ranges.t) at c.in_ok-write_fault.ensures in
+    (writable c.args.notes.now c.args.scores.now c.args.n c.args.t right).0
+
+pub put_sheet-requires-clause-scores_len : goal.put_sheet-requires-clause-scores_len
+put_sheet-requires-clause-scores_len c =
+    let right = rw (to_z-of_z w16 c.args.t c.ranges.t) at c.in_ok-write_fault.ensures in
+    (writable c.args.notes.now c.args.scores.now c.args.n c.args.t right).1
+
+pub put_sheet-requires-clause-notes_len_bound : goal.put_sheet-requires-clause-notes_len_bound
+put_sheet-requires-clause-notes_len_bound c =
+    let right = rw (to_z-of_z w16 c.args.t c.ranges.t) at c.in_ok-write_fault.ensures in
+    (writable c.args.notes.now c.args.scores.now c.args.n c.args.t right).2
 
 pub returns : goal.returns
 returns c =
-    let same = to_z-of_z w16 c.args.t c.ranges.t in
-    let right = sym c.in_default.is ∙ c.write_fault.ensures ∙ ap (write_fault c.args.notes.now c.args.scores.now c.args.n) same in
-    wrote c.args.notes.now c.args.scores.now c.args.n c.args.t c.args.buf.now right c.length_of-size.ensures c.if-buf-size.false same c.put_sheet.ensures
+    let t = to_z-of_z w16 c.args.t c.ranges.t in
+    let right = rw t at c.in_ok-write_fault.ensures in
+    wrote c.args.notes.now c.args.scores.now c.args.n c.args.t c.args.buf.now right c.length_of-size.ensures c.if-buf-size.false t c.put_sheet.ensures

@@ -1,25 +1,15 @@
--- `price` meets its contract: the distance of two numbers is that of the numbers counted from the least. Assumes nothing.
-use mathlib.Core.Path.{sym, ◌∙◌, ap}
+-- `price` meets its contract: the distance of two numbers, and 1 where that is 0. Assumes nothing.
+use Prim.Native.Nat.{ℕ}
+use mathlib.Core.Path.{◌∙◌, ap, ap₂}
 use mir.Syntax.{w16}
 use mir.ValLaws.{to_z-of_z}
-use Rattle.scores.specs.Inner.{lift}
-use Rattle.scores.proofs.Complement.{price_under, price_over, price_tie}
+use Rattle.std.proofs.Common.{max}
+use Rattle.scores.proofs.Complement.{price_is}
+use Rattle.scores.specs.Scale.{distance}
 use Rattle.scores.proofs.scale.price.Goals as goal
 
-pub returns-then-a-b : goal.returns-then-a-b
-returns-then-a-b c =
-    let a = c.lifted-a.ensures ∙ ap lift (to_z-of_z w16 c.args.s c.ranges.s) in
-    let b = c.lifted-b.ensures ∙ ap lift (to_z-of_z w16 c.args.t c.ranges.t) in
-    price_tie c.args.s c.args.t c.ranges.s c.ranges.t (sym a ∙ c.if-a-b.true ∙ b)
-
-pub returns-then-a-b-2 : goal.returns-then-a-b-2
-returns-then-a-b-2 c =
-    let a = c.lifted-a.ensures ∙ ap lift (to_z-of_z w16 c.args.s c.ranges.s) in
-    let b = c.lifted-b.ensures ∙ ap lift (to_z-of_z w16 c.args.t c.ranges.t) in
-    price_under c.args.s c.args.t c.ranges.s c.ranges.t a b c.if-a-b-2.true
-
 pub returns : goal.returns
+unfolding distance
 returns c =
-    let a = c.lifted-a.ensures ∙ ap lift (to_z-of_z w16 c.args.s c.ranges.s) in
-    let b = c.lifted-b.ensures ∙ ap lift (to_z-of_z w16 c.args.t c.ranges.t) in
-    price_over c.args.s c.args.t c.ranges.s c.ranges.t a b c.if-a-b-2.false c.if-a-b.false
+    let d = c.abs_diff.ensures ∙ ap₂ distance (to_z-of_z w16 c.args.s c.ranges.s) (to_z-of_z w16 c.args.t c.ranges.t) in
+    c.max.ensures ∙ ap (λ (x : ℕ). max x 1) d ∙ price_is c.args.s c.args.t

@@ -1,21 +1,45 @@
--- `scale_fault` meets its contract: the threshold, then the scores. Assumes nothing.
 use mathlib.Core.Path.{sym, ◌∙◌, ap}
 use mir.Syntax.{w16}
 use mir.ValLaws.{to_z-of_z}
-use Rattle.bits.proofs.Truth.{not_in, not_off}
-use Rattle.graph.proofs.Refusals.{first_of_single}
-use Rattle.scores.proofs.Checking.{hit, pass}
-use Rattle.scores.specs.Scale.{on_scale, threshold_off}
+use native.Mathlib.Omega.{arith}
+use Rattle.scores.proofs.ScoreFaults.{one_more_on, one_row_on, tried, scores_fine, scores_fault, threshold_fault, scores_next}
+use Rattle.scores.specs.Scale.{on_scale}
 use Rattle.scores.proofs.scale.scale_fault.Goals as goal
 
-pub returns-then-on_scale : goal.returns-then-on_scale
-unfolding threshold_off
-returns-then-on_scale c =
-    let t = c.on_scale.ensures ∙ ap on_scale (to_z-of_z w16 c.args.t c.ranges.t) in
-    c.off_scale.ensures ∙ sym (first_of_single _) ∙ pass 5 _ (not_off (sym t ∙ c.if-on_scale.true))
+pub returns-then-not-on_scale : goal.returns-then-not-on_scale
+returns-then-not-on_scale g c xs is =
+    let t = sym (ap on_scale (to_z-of_z w16 c.args.t c.ranges.t)) ∙ sym c.on_scale.ensures in
+    threshold_fault c.args.n xs c.args.t (t ∙ c.if-not-on_scale.true)
+
+pub loop-i-init : goal.loop-i-init
+loop-i-init g c xs is a b h = absurd (omega arith)
+
+pub loop-j-init : goal.loop-j-init
+loop-j-init g c xs is b low up = absurd (omega arith)
+
+pub returns-then-not-on_scale-2 : goal.returns-then-not-on_scale-2
+returns-then-not-on_scale-2 g c xs is =
+    let t = sym (ap on_scale (to_z-of_z w16 c.args.t c.ranges.t)) ∙ sym c.on_scale.ensures in
+    let k = c.spot_of in
+    let s = c.score in
+    let here = is k.result s.result k.ensures.1 s.ensures in
+    let off = tried c.args.n xs c.loop-i.i c.loop-j.j k.ensures.0 here s.type_inv c.on_scale-in-loop-j.ensures c.if-not-on_scale-2.true in
+    scores_next c.args.n xs c.args.t (t ∙ c.if-not-on_scale.false)
+    (scores_fault c.args.n xs c.loop-i.i c.loop-j.j (omega arith) (omega arith) (c.loop-i.invariant xs is) (c.loop-j.invariant xs is) off)
+
+pub loop-j-preserved : goal.loop-j-preserved
+loop-j-preserved g c xs is =
+    let k = c.spot_of in
+    let s = c.score in
+    let here = is k.result s.result k.ensures.1 s.ensures in
+    let on = tried c.args.n xs c.loop-i.i c.loop-j.j k.ensures.0 here s.type_inv c.on_scale-in-loop-j.ensures c.if-not-on_scale-2.false in
+    one_more_on c.args.n xs c.loop-i.i c.loop-j.j (c.loop-j.invariant xs is) on
+
+pub loop-i-preserved : goal.loop-i-preserved
+loop-i-preserved g c xs is =
+    one_row_on c.args.n xs c.loop-i.i c.loop-j.j (c.loop-i.invariant xs is) (c.loop-j.invariant xs is) c.loop-j-test.false
 
 pub returns : goal.returns
-unfolding threshold_off
-returns c =
-    let t = c.on_scale.ensures ∙ ap on_scale (to_z-of_z w16 c.args.t c.ranges.t) in
-    hit 5 _ (not_in (sym t ∙ c.if-on_scale.false))
+returns g c xs is =
+    let t = sym (ap on_scale (to_z-of_z w16 c.args.t c.ranges.t)) ∙ sym c.on_scale.ensures in
+    scores_next c.args.n xs c.args.t (t ∙ c.if-not-on_scale.false) (scores_fine c.args.n xs (λ a b h. c.loop-i.invariant xs is a b (omega arith)))

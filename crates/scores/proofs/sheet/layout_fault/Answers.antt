@@ -1,28 +1,42 @@
 -- `layout_fault` meets its contract: the checks 11, 1 and 11 in turn. Assumes nothing.
-use Prim.Native.Nat.{ℕ, ◌≤◌, ◌<◌}
-use mathlib.Core.Bool.{true, false, not}
-use mathlib.Core.Path.{◌≡◌, sym, ◌∙◌, subst}
-use Rattle.scores.proofs.Sheets.{no_trailer, size_off, length_off, laid_out}
+use native.Mathlib.Omega.{arith}
+use mathlib.Core.Path.{sym, ◌∙◌, ap}
+use Rattle.scores.proofs.Sheets.{no_trailer, size_off, layout_off, laid_out, too_much, other_length, right_length}
 use Rattle.scores.specs.Reader.{wrong_layout}
-use Rattle.scores.specs.Sheet.{notes_of}
+use Rattle.scores.specs.declared.Trailer.{Trailer}
 use Rattle.scores.proofs.sheet.layout_fault.Goals as goal
+use Rattle.scores.proofs.sheet.layout_fault.Goals.{
+  then-trailer-gt32768-via-then-trailer-gt32768,
+  then-trailer-gt32768-via-else-trailer-gt32768+then-sheet-length_of,
+}
 
-pub returns-then-sheet-lt8 : goal.returns-then-sheet-lt8
-returns-then-sheet-lt8 c =
+pub returns-then-sheet-lt8-clause-refused : goal.returns-then-sheet-lt8-clause-refused
+returns-then-sheet-lt8-clause-refused c =
     no_trailer c.args.sheet.now c.if-sheet-lt8.true
 
-pub returns-then-n-gt128 : goal.returns-then-n-gt128
-returns-then-n-gt128 c =
-    size_off c.args.sheet.now c.if-sheet-lt8.false (subst (λ (x : ℕ). 128 < x) c.size_of-n.ensures c.if-n-gt128.true)
+pub returns-then-trailer-gt128-clause-refused : goal.returns-then-trailer-gt128-clause-refused
+returns-then-trailer-gt128-clause-refused c =
+    let n = ap (λ (h : Trailer). h.n) c.trailer_of-trailer.ensures in
+    size_off c.args.sheet.now c.if-sheet-lt8.false (omega arith)
 
-pub returns-then-is_long : goal.returns-then-is_long
-returns-then-is_long c =
-    let s = c.size_of-n.ensures in
-    laid_out c.args.sheet.now c.if-sheet-lt8.false (subst (λ (x : ℕ). x ≤ 128) s c.if-n-gt128.false)
-    (subst (λ (x : ℕ). not (wrong_layout c.args.sheet.now (notes_of c.args.sheet.now) x) ≡ true) s (sym c.is_long.ensures ∙ c.if-is_long.true))
+pub returns-then-trailer-gt32768-clause-refused : goal.returns-then-trailer-gt32768-clause-refused
+returns-then-trailer-gt32768-clause-refused c =
+    let h = c.trailer_of-trailer.result in
+    let e = c.trailer_of-trailer.ensures in
+    let n = ap (λ (x : Trailer). x.n) e in
+    let same = sym (ap (λ (x : Trailer). wrong_layout c.args.sheet.now x.p x.n) e) in
+    layout_off c.args.sheet.now c.if-sheet-lt8.false (omega arith)
+    (same ∙ (elim c.then-trailer-gt32768.branch [
+      then-trailer-gt32768-via-then-trailer-gt32768 w ↦ too_much c.args.sheet.now h.p h.n w.if-trailer-gt32768.true
+    | then-trailer-gt32768-via-else-trailer-gt32768+then-sheet-length_of w ↦
+        other_length c.args.sheet.now h.p h.n (λ l. w.if-sheet-length_of.true (l ∙ sym w.length_of.ensures))
+    ]))
 
-pub returns : goal.returns
-returns c =
-    let s = c.size_of-n.ensures in
-    length_off c.args.sheet.now c.if-sheet-lt8.false (subst (λ (x : ℕ). x ≤ 128) s c.if-n-gt128.false)
-    (subst (λ (x : ℕ). not (wrong_layout c.args.sheet.now (notes_of c.args.sheet.now) x) ≡ false) s (sym c.is_long.ensures ∙ c.if-is_long.false))
+pub returns-clause-refused : goal.returns-clause-refused
+returns-clause-refused c =
+    let h = c.trailer_of-trailer.result in
+    let e = c.trailer_of-trailer.ensures in
+    let n = ap (λ (x : Trailer). x.n) e in
+    let same = sym (ap (λ (x : Trailer). wrong_layout c.args.sheet.now x.p x.n) e) in
+    let long = c.if-sheet-length_of.false ∙ c.length_of.ensures in
+    laid_out c.args.sheet.now c.if-sheet-lt8.false (omega arith) (same ∙ right_length c.args.sheet.now h.p h.n c.if-trailer-gt32768.false long)

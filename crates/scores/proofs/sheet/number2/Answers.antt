@@ -1,26 +1,9 @@
 -- `number2` meets its contract: two bytes, low byte first. Assumes nothing.
-use Prim.Native.Nat.{◌+◌}
-use mathlib.Core.Path.{sym}
 use native.Mathlib.Omega.{arith}
 use Rattle.scores.proofs.Fields.{field_two}
 use Rattle.scores.proofs.sheet.number2.Goals as goal
 
-pub overflow_cast-result : goal.overflow_cast-result
-overflow_cast-result c =
-    omega (arith, c.shared_slice_known-1.given c.args.at)
-
-pub overflow_cast-result-2 : goal.overflow_cast-result-2
-overflow_cast-result-2 c =
-    omega (arith, c.shared_slice_known-2-1.given (c.args.at + 1))
-
-pub overflow_mul-result : goal.overflow_mul-result
-overflow_mul-result c =
-    omega (arith, c.shared_slice_known-2-1.given (c.args.at + 1))
-
-pub overflow_add-result-2 : goal.overflow_add-result-2
-overflow_add-result-2 c =
-    omega (arith, c.shared_slice_known-1.given c.args.at, c.shared_slice_known-2-1.given (c.args.at + 1))
-
 pub returns : goal.returns
 returns c =
-    sym (field_two c.args.s.now c.args.at (omega arith))
+    let e = c.from_le_bytes.ensures in
+    omega (arith, field_two c.args.s.now c.args.at (omega arith))

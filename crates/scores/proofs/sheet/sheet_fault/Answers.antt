@@ -1,57 +1,44 @@
--- `sheet_fault` meets its contract: the layout, the threshold, the scores. Assumes nothing.
-use Prim.Native.Nat.{ℕ}
-use mathlib.Core.Path.{sym, ◌∙◌, ap, ap₂}
+-- `sheet_fault` meets its contract: the layout, then the scale. Assumes nothing.
+use Rattle.std.proofs.Common.{rules, ◌≡◌, Err}
+use mathlib.Core.Path.{◌∙◌, ap}
+use mir.Syntax.{w16}
+use mir.ValLaws.{to_z-of_z}
 use native.Mathlib.Omega.{arith}
-use Rattle.scores.proofs.Complement.{back}
-use Rattle.scores.proofs.Sheets.{laid, layout_refused, threshold_off_lem, scores_decide}
-use Rattle.scores.specs.Inner.{scores_in}
-use Rattle.scores.specs.Scale.{on_scale, scores_off}
-use Rattle.scores.specs.Sheet.{scores_of, sheet_length}
+use Rattle.graph.specs.Refusal.{refusal}
+use Rattle.scores.proofs.Sheets.{laid, layout_refused, score_inside, score_listed, scale_told}
+use Rattle.scores.specs.Sheet.{scores_of}
+use Rattle.scores.specs.declared.Trailer.{Trailer}
 use Rattle.scores.proofs.sheet.sheet_fault.Goals as goal
 
-pub returns-in-Fault : goal.returns-in-Fault
-returns-in-Fault c =
-    layout_refused c.args.sheet.now _ c.in-Fault.is c.layout_fault-found.ensures
+pub returns-in_err-trailer-clause-refused : goal.returns-in_err-trailer-clause-refused
+returns-in_err-trailer-clause-refused c =
+    let back : c.from_residual.result ≡ Err c.in_err-trailer.field-0.0 = search rules in
+    ap refusal back ∙ layout_refused c.args.sheet.now c.in_err-trailer.ensures.refused
 
-pub threshold_of-requires : goal.threshold_of-requires
-threshold_of-requires c =
-    let right = sym c.in_default.is ∙ c.layout_fault-found.ensures in
-    (laid c.args.sheet.now right).trailed
+pub scale_fault-requires-clause-n_bound : goal.scale_fault-requires-clause-n_bound
+scale_fault-requires-clause-n_bound c =
+    let h = c.in_ok-trailer.ensures in
+    omega (arith, (laid c.args.sheet.now h.refused).few, ap (λ (x : Trailer). x.n) h.trailer)
 
-pub notes_of-requires : goal.notes_of-requires
-notes_of-requires c =
-    let right = sym c.in_default.is ∙ c.layout_fault-found.ensures in
-    (laid c.args.sheet.now right).trailed
+pub scale_fault-requires-clause-callable : goal.scale_fault-requires-clause-callable
+scale_fault-requires-clause-callable c k few =
+    let h = c.in_ok-trailer.ensures in
+    let inside = score_inside c.args.sheet.now h.trailer h.refused few in
+    search rules
 
-pub size_of-requires : goal.size_of-requires
-size_of-requires c =
-    let right = sym c.in_default.is ∙ c.layout_fault-found.ensures in
-    (laid c.args.sheet.now right).trailed
+pub returns-in_err-scale_fault-clause-refused : goal.returns-in_err-scale_fault-clause-refused
+returns-in_err-scale_fault-clause-refused c =
+    let back : c.from_residual-in_err-scale_fault.result ≡ Err c.in_err-scale_fault.field-0.0 = search rules in
+    let h = c.in_ok-trailer.ensures in
+    let t = to_z-of_z w16 c.in_ok-trailer.trailer.t (search rules) in
+    let told = c.in_err-scale_fault.ensures (scores_of c.args.sheet.now) (λ k s few q.
+      score_listed c.args.sheet.now h.trailer few (search rules)) in
+    ap refusal back ∙ scale_told c.args.sheet.now h.trailer h.refused t told
 
-pub off_scale-requires : goal.off_scale-requires
-off_scale-requires c =
-    let right = sym c.in_default.is ∙ c.layout_fault-found.ensures in
-    let ok = laid c.args.sheet.now right in
-    let z = c.size_of.ensures in
-    let p = c.notes_of.ensures in
-    record {
-      n_bound = omega (arith, ok.few);
-      sheet_len = ok.long ∙ sym (ap₂ sheet_length p z);
-    }
-
-pub returns-then-on_scale : goal.returns-then-on_scale
-unfolding scores_of
-returns-then-on_scale c =
-    let right = sym c.in_default.is ∙ c.layout_fault-found.ensures in
-    let t = back c.threshold_of.result c.threshold_of.type_inv ∙ c.threshold_of.ensures in
-    let on = sym (ap on_scale t) ∙ sym c.on_scale.ensures in
-    let z = c.size_of.ensures in
-    let p = c.notes_of.ensures in
-    scores_decide c.args.sheet.now right (on ∙ c.if-on_scale.true) _ (c.off_scale.ensures ∙ ap₂ (λ (x y : ℕ). scores_off y (scores_in c.args.sheet.now x y)) p z)
-
-pub returns : goal.returns
-returns c =
-    let right = sym c.in_default.is ∙ c.layout_fault-found.ensures in
-    let t = back c.threshold_of.result c.threshold_of.type_inv ∙ c.threshold_of.ensures in
-    let on = sym (ap on_scale t) ∙ sym c.on_scale.ensures in
-    threshold_off_lem c.args.sheet.now right (on ∙ c.if-on_scale.false)
+pub returns-clause-refused : goal.returns-clause-refused
+returns-clause-refused c =
+    let h = c.in_ok-trailer.ensures in
+    let t = to_z-of_z w16 c.in_ok-trailer.trailer.t (search rules) in
+    let told = c.in_ok-scale_fault.ensures (scores_of c.args.sheet.now) (λ k s few q.
+      score_listed c.args.sheet.now h.trailer few (search rules)) in
+    scale_told c.args.sheet.now h.trailer h.refused t told
