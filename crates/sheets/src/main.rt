@@ -79,7 +79,11 @@ fn short(rt: &impl Print) -> io::Result<()> {
 // The greatest number of vertices, and one more.
 fn most(rt: &impl Print) -> io::Result<()> {
     for (name, n) in [("graph of 128", 128), ("graph of 129", 129)] {
-        drawing(rt, name, scores::to_graph(n, 0, &[0; 8128], &mut [0; 16384], &mut [0; 16384]))?;
+        drawing(
+            rt,
+            name,
+            scores::to_graph(n, 0, &[0; 8128], &mut [0; 16384], &mut [0; 16384]),
+        )?;
     }
     Ok(())
 }
