@@ -11,7 +11,6 @@ pub mod LevelLeast
 pub mod LevelPairs
 pub mod LevelQuad
 pub mod LevelRows
-pub mod LevelScan
 pub mod Listing
 pub mod MaskRow
 pub mod MaskWord
@@ -25,3 +24,5 @@ pub mod Refusals
 pub mod RowLaws
 pub mod Within
 pub mod WordLaws
+pub mod Popping
+pub mod Walked
