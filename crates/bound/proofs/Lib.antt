@@ -5,6 +5,7 @@ pub mod Six
 pub mod Tallied
 pub mod Fits
 pub mod Exact
+pub mod Popping
 pub mod Laying
 pub mod Turn
 pub mod Touch

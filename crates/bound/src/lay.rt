@@ -1,5 +1,5 @@
 // A quad is visited: where none of its six pairs is used, its free pairs are laid, one at a time from the last, and the
-// lowest of their costs is added to the sum. A sum that passes the room ends as 4,294,967,295.
+// lowest of their costs is added to the sum. A sum that passes the room ends as `None`.
 ghost use Rattle.std.specs.Prelude.{◌≡◌, ◌&&◌, ◌||◌, ℕ, ◌+◌, ◌*◌, ◌≤◌, ◌<◌, length, eqb};
 ghost use Rattle.graph.specs.Graph.{word_edge};
 ghost use Rattle.repair.specs.Packing.{hopeless};
@@ -75,21 +75,30 @@ fn lay_all(cost: &[u16], taken: &mut [u64], a: usize, b: usize, c: usize, d: usi
     low
 }
 
+// Is the pair of a and b, of a and c or of b and c used?
+pub fn shut(taken: &[u64], a: usize, b: usize, c: usize) -> bool
+    requires { (length taken.now ≡ 256) × (a < 128) × (b < 128) × (c < 128) }
+    ensures { result ≡ (word_edge taken.now a b
+        || (word_edge taken.now a c || word_edge taken.now b c)) }
+{
+    graph::rows::adjacent(taken, a, b)
+        || graph::rows::adjacent(taken, a, c)
+        || graph::rows::adjacent(taken, b, c)
+}
+
 // Is one of the six pairs used?
 #[tactic(auto, unfolding(crate::specs::Pass::touched))]
 fn touched_of(taken: &[u64], a: usize, b: usize, c: usize, d: usize) -> bool
     requires { (length taken.now ≡ 256) × (a < 128) × (b < 128) × (c < 128) × (d < 128) }
     ensures { result ≡ touched a b c d (word_edge taken.now) }
 {
-    graph::rows::adjacent(taken, a, b)
-        || graph::rows::adjacent(taken, a, c)
+    shut(taken, a, b, c)
         || graph::rows::adjacent(taken, a, d)
-        || graph::rows::adjacent(taken, b, c)
         || graph::rows::adjacent(taken, b, d)
         || graph::rows::adjacent(taken, c, d)
 }
 
-// The quad a, b, c, d is visited: the sum after it, 4,294,967,295 where that is past the room.
+// The quad a, b, c, d is visited: the sum after it, `None` where that is past the room.
 pub fn visit_of(
     cost: &[u16],
     taken: &mut [u64],
@@ -99,17 +108,17 @@ pub fn visit_of(
     d: usize,
     total: u32,
     room: u32,
-) -> u32
+) -> Option<u32>
     requires ready { Ready cost.now taken.old total room }
     requires a_bound { (a < 128) × (b < 128) × (c < 128) × (d < 128) }
     ensures { Left room (visit cost.now a b c d (held taken.old total)) taken.new result }
 {
     if touched_of(taken, a, b, c, d) {
-        return total;
+        return Some(total);
     }
-    let x = lay_all(cost, taken, a, b, c, d);
-    if room - total < x {
-        return 4294967295;
+    let fee = lay_all(cost, taken, a, b, c, d);
+    if room - total < fee {
+        return None;
     }
-    total + x
+    Some(total + fee)
 }

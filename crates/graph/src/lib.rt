@@ -7,6 +7,7 @@ ghost use Rattle.graph.specs.Refusal.{number, row_at, column_at};
 use std::fmt;
 
 pub mod check;
+pub mod row;
 pub mod rows;
 pub mod seek;
 

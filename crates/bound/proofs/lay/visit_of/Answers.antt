@@ -10,9 +10,9 @@ returns-then-touched_of c =
 pub returns-then-room-total : goal.returns-then-room-total
 returns-then-room-total c =
     visit_past _ _ _ _ _ _ _ _ c.requires.ready (sym c.touched_of.ensures ∙ c.if-touched_of.false)
-    c.lay_all-x.ensures c.if-room-total.true
+    c.lay_all-fee.ensures c.if-room-total.true
 
 pub returns : goal.returns
 returns c =
     visit_made _ _ _ _ _ _ _ _ c.requires.ready (sym c.touched_of.ensures ∙ c.if-touched_of.false)
-    c.lay_all-x.ensures c.if-room-total.false
+    c.lay_all-fee.ensures c.if-room-total.false
