@@ -18,32 +18,15 @@ use mathlib.Core.Path.{sym, ◌∙◌}
 use native.Mathlib.Omega.{arith}
 use Rattle.search.proofs.tree.Search.+node_way_ways.Goals as goal
 
-pub node-entered-here-requires : goal.node-entered-here-requires
-node-entered-here-requires t c =
-    omega (arith, c.requires.steps_le_most, c.requires.ready.large)
-
 pub node-returns-then-self-here : goal.node-returns-then-self-here
 node-returns-then-self-here t c =
     end_stopped c.args.self.now.prune c.requires.ready c.requires.steps_le_most c.entered-here.ensures c.if-self-here.true
-
-pub node-first_quad-requires : goal.node-first_quad-requires
-node-first_quad-requires t c =
-    let m = c.requires.ready.safe in
-    (m.shape.many, m.few, m.graph)
 
 pub node-keep-requires : goal.node-keep-requires
 node-keep-requires t c =
     let r = c.requires.ready in
     let step = c.entered-here.ensures in
     (path_room c.args.self.now.prune r c.requires.steps_le_most step, kept_room c.args.self.now.prune r c.requires.steps_le_most step, kept_fits c.args.self.now.prune r c.requires.steps_le_most step)
-
-pub node-leaves-requires : goal.node-leaves-requires
-node-leaves-requires t c =
-    let m = c.requires.ready.safe in
-    record {
-      words_len = (m.shape.many, m.table, m.few);
-      graph = m.graph;
-    }
 
 pub node-returns-then-leaves : goal.node-returns-then-leaves
 node-returns-then-leaves t c =
@@ -80,14 +63,6 @@ node-returns-else-leaves t c =
     c.in-Some.q (sym c.first_quad.ensures ∙ c.in-Some.is) c.places.result w.result
     w.new.room.words w.new.room.cost w.new.room.path w.new.room.kept (sym c.leaves.ensures ∙ c.if-leaves.false) c.places.ensures w.ensures
 
-pub way-mark-price-requires : goal.way-mark-price-requires
-way-mark-price-requires t c =
-    omega (arith, c.requires.ready.safe.table, c.requires.p_bound.0)
-
-pub way-opens-requires : goal.way-opens-requires
-way-opens-requires t c =
-    c.requires.ready.safe.paid
-
 pub way-returns-then-not-opens : goal.way-returns-then-not-opens
 way-returns-then-not-opens t c =
     let m = c.mark-price in
@@ -101,16 +76,6 @@ way-enter-at-requires t c =
       words_len = (safe.shape.many, safe.long, path_open c.args.self.now.prune c.requires.ready c.requires.p_bound.0 c.requires.p_bound.1 m.new.cost m.result m.ensures (sym c.opens.ensures ∙ c.if-not-opens.false), safe.few, c.requires.p_bound.0);
       place = c.requires.p_bound.1;
     }
-
-pub way-overflow_add-count : goal.way-overflow_add-count
-way-overflow_add-count t c =
-    let m = c.mark-price in
-    omega (arith, path_open c.args.self.now.prune c.requires.ready c.requires.p_bound.0 c.requires.p_bound.1 m.new.cost m.result m.ensures (sym c.opens.ensures ∙ c.if-not-opens.false))
-
-pub way-paid-requires : goal.way-paid-requires
-way-paid-requires t c =
-    let m = c.mark-price in
-    price_fits c.args.self.now.prune c.requires.ready c.requires.p_bound.0 c.requires.p_bound.1 m.new.cost m.result m.ensures (sym c.opens.ensures ∙ c.if-not-opens.false)
 
 pub way-node-after-requires : goal.way-node-after-requires
 way-node-after-requires t c =
@@ -152,18 +117,9 @@ way-returns t c =
     e.new.words e.new.path d.new.room.words d.new.room.cost d.new.room.path d.new.room.kept l.new.words l.new.path
     e.result due.result d.result due.ensures e.ensures.toggled e.ensures.put d.ensures l.ensures.toggled l.ensures.closed
 
-pub ways-costs-old-requires : goal.ways-costs-old-requires
-ways-costs-old-requires t c =
-    λ w l. omega (arith, c.requires.ready.safe.table, (c.requires.six.each w l).0)
-
 pub ways-loop-p-init : goal.ways-loop-p-init
 ways-loop-p-init t c =
     trying_none c.requires.ready c.requires.six
-
-pub ways-way-tally-requires : goal.ways-way-tally-requires
-ways-way-tally-requires t c =
-    let so = c.loop-p.invariant in
-    (omega (arith, so.fewer), (so.ready, c.requires.six.each c.loop-p.p-index c.loop-p-test.true))
 
 pub ways-loop-p-preserved : goal.ways-loop-p-preserved
 ways-loop-p-preserved t c =
@@ -171,14 +127,6 @@ ways-loop-p-preserved t c =
     let w = c.way-tally in
     trying_more c.requires.ready c.requires.six so w.new.room.words w.new.room.cost w.new.room.path w.new.room.kept w.result
     c.loop-p-test.true (w.new.room.path_len ∙ sym so.ready.safe.long) (w.new.room.kept_len ∙ sym so.ready.safe.wide) w.ensures
-
-pub ways-restore-requires : goal.ways-restore-requires
-ways-restore-requires t c =
-    let so = c.loop-p.invariant in (
-      c.costs-old.ensures.six,
-      c.requires.six.many,
-      λ w l. omega (arith, so.ready.safe.table, (c.requires.six.each w l).0),
-    )
 
 pub ways-returns : goal.ways-returns
 ways-returns t c =
