@@ -13,7 +13,7 @@ ghost use Rattle.lines.specs.Report.{Searched, Lines};
 
 use crate::text::{Page, ROOM};
 use crate::{mend, page};
-use forest::Answer::Forest;
+use forest::Answer::{Forest, Spoiled};
 use graph::Refusal;
 use scores::Trailer;
 use search::Answer::{Nothing, Repaired, Stopped};
@@ -26,11 +26,14 @@ fn trees(page: &mut Page, n: usize, graph: &[u8])
     ensures { page.new ≡ page.old ++ tree_lines n (edge n graph.now) }
 {
     let mut list = [0u16; 128];
-    let Ok(Forest { groups }) = forest::forest(n, graph, &mut list) else {
-        unreachable!();
-    };
-    page::parents(page, &list[..n]);
-    page.one(b"groups ", groups);
+    match forest::forest(n, graph, &mut list) {
+        Ok(Forest { groups }) => {
+            page::parents(page, &list[..n]);
+            page.one(b"groups ", groups);
+        }
+        Ok(Spoiled(_)) => unreachable!(),
+        Err(_) => unreachable!(),
+    }
 }
 
 // The first lines, up to those of the changed pairs.
