@@ -13,7 +13,7 @@ ghost use Rattle.lines.specs.Report.{Searched, Lines};
 
 use crate::text::{Page, ROOM};
 use crate::{mend, page};
-use forest::Answer::Forest;
+use forest::Answer::{Forest, Spoiled};
 use graph::Refusal;
 use scores::Trailer;
 use search::Answer::{Nothing, Repaired, Stopped};
@@ -26,11 +26,15 @@ fn trees(page: &mut Page, n: usize, graph: &[u8])
     ensures { page.new ≡ page.old ++ tree_lines n (edge n graph.now) }
 {
     let mut list = [0u16; 128];
-    let Ok(Forest { groups }) = forest::forest(n, graph, &mut list) else {
-        unreachable!();
-    };
-    page::parents(page, &list[..n]);
-    page.one(b"groups ", groups);
+    match forest::forest(n, graph, &mut list) {
+        Ok(Forest { groups }) => {
+            page::parents(page, &list[..n]);
+            page.one(b"groups ", groups);
+        }
+        // The graph passes the checks and is clean.
+        Ok(Spoiled(_)) => unreachable!(),
+        Err(_) => unreachable!(),
+    }
 }
 
 // The first lines, up to those of the changed pairs.
@@ -81,6 +85,7 @@ fn searched(page: &mut Page, n: usize, graph: &mut [u8], prices: &[u16])
             );
         }
         Ok(Stopped { steps }) => page.one(b"answer 9 steps ", steps as usize),
+        // Toggling every edge is a repair within the budget.
         Ok(Nothing { .. }) => unreachable!(),
         Err(_) => unreachable!(),
     }
@@ -92,7 +97,9 @@ fn drawn(page: &mut Page, n: usize, t: i16, scores: &[i16], graph: &mut [u8], pr
     requires empty { page.old ≡ [] }
     ensures { Searched n (edge n (square n (edge_byte n t scores.now))) (toll_of (square n (price_entry n t scores.now))) page.new }
 {
-    let _ = scores::to_graph(n, t, scores, graph, prices);
+    let Ok(()) = scores::to_graph(n, t, scores, graph, prices) else {
+        unreachable!();
+    };
     searched(page, n, graph, prices);
 }
 

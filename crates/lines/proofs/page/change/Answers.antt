@@ -1,6 +1,4 @@
 -- `change` meets its contract: the pair's own entry decides between the two lines. Assumes nothing.
-use native.Mathlib.Omega.{arith}
-use Rattle.scores.proofs.Squares.{row_column}
 use Rattle.lines.proofs.Behind.{room_as, put_as}
 use Rattle.lines.proofs.Changing.{change_cut, change_join}
 use Rattle.lines.proofs.page.change.Goals as goal

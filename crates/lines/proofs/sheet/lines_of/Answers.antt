@@ -4,7 +4,7 @@ use lib.IntN.{ℤ, pos}
 use mathlib.Core.Path.{refl}
 use mir.Syntax.{w16}
 use mir.ValLaws.{to_z-of_z}
-use Rattle.scores.proofs.OnScale.{on_lift}
+use Rattle.scores.proofs.OnScale.{on_fits}
 use Rattle.lines.proofs.Taking.{long_paged, refused_paged, listed_right, listed_paged}
 use Rattle.lines.proofs.sheet.lines_of.Goals as goal
 
@@ -14,12 +14,12 @@ returns-then-sheet-gt49032 c =
 
 pub returns-in_default : goal.returns-in_default
 returns-in_default c =
-    refused_paged c.args.sheet.now c.if-sheet-gt49032.false _ (length-replicate {A = ℤ} 8128 (pos 0)) c.read-read.ensures c.in_default.is c.refused.ensures
+    refused_paged c.args.sheet.now c.if-sheet-gt49032.false _ (length-replicate {A = ℤ} 8128 (pos 0)) c.read-read.ensures c.in_default.is c.refused-in_default.ensures
 
 pub listed-requires : goal.listed-requires
 listed-requires c =
     let right = listed_right c.args.sheet.now c.if-sheet-gt49032.false _ (length-replicate {A = ℤ} 8128 (pos 0)) c.read-read.ensures c.in-Ok.is refl c.read-read.auto.scores in
-    let t = to_z-of_z w16 c.in-Ok.t (on_lift c.in-Ok.t right.1.0).2 in
+    let t = to_z-of_z w16 c.in-Ok.field-0.t (on_fits c.in-Ok.field-0.t right.1.0) in
     let all = listed_right c.args.sheet.now c.if-sheet-gt49032.false _ (length-replicate {A = ℤ} 8128 (pos 0)) c.read-read.ensures c.in-Ok.is t c.read-read.auto.scores in
     record {
       n_bound = all.0;
@@ -30,5 +30,5 @@ listed-requires c =
 pub returns : goal.returns
 returns c =
     let right = listed_right c.args.sheet.now c.if-sheet-gt49032.false _ (length-replicate {A = ℤ} 8128 (pos 0)) c.read-read.ensures c.in-Ok.is refl c.read-read.auto.scores in
-    let t = to_z-of_z w16 c.in-Ok.t (on_lift c.in-Ok.t right.1.0).2 in
+    let t = to_z-of_z w16 c.in-Ok.field-0.t (on_fits c.in-Ok.field-0.t right.1.0) in
     listed_paged c.args.sheet.now c.if-sheet-gt49032.false _ (length-replicate {A = ℤ} 8128 (pos 0)) c.read-read.ensures c.in-Ok.is t c.listed.ensures

@@ -1,12 +1,9 @@
 -- `listed` meets its contract: the first scores, and the first entries of the graph and the prices, are lent on. Assumes nothing.
 use Prim.Native.Nat.{ℕ}
-use native.Mathlib.Omega.{arith}
-use mathlib.Core.Path.{sym}
 use lib.ListN.{length-replicate}
-use lib.Seq.{length-take-le}
 use mir.Syntax.{w16}
 use mir.ValLaws.{to_z-of_z}
-use Rattle.lines.proofs.Drawing.{half_told, squares_few, list_ready, list_paged}
+use Rattle.lines.proofs.Drawing.{list_ready, list_paged}
 use Rattle.lines.proofs.sheet.listed.Goals as goal
 
 pub drawn-requires : goal.drawn-requires

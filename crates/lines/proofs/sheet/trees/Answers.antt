@@ -1,18 +1,23 @@
 -- `trees` meets its contract: the answer is a forest, and its lines are put. Assumes nothing.
 use native.Mathlib.Omega.{arith}
-use mathlib.Core.Path.{◌∙◌, ap, subst}
+use mathlib.Core.Path.{◌∙◌, ap}
 use Rattle.graph.specs.Graph.{edge}
 use Rattle.forest.specs.Order.{parent}
 use Rattle.forest.specs.Forest.{roots}
-use Rattle.forest.specs.Answer.{Promise}
 use Rattle.lines.specs.Lines.{parent_lines, groups_line}
 use Rattle.lines.proofs.Behind.{room_as, put_as, first_room, then_room, both}
 use Rattle.lines.proofs.Trees.{is_forest, firsts_told, parents_told, groups_told}
 use Rattle.lines.proofs.sheet.trees.Goals as goal
-use Rattle.lines.proofs.sheet.trees.Goals.{in_default-via-in-Ok+in_default, in_default-via-in_default}
 
 pub unreachable-requires : goal.unreachable-requires
-unreachable-requires c = elim c.in_default.branch [ in_default-via-in-Ok+in_default w ↦ let h = w.in_default in ? | in_default-via-in_default w ↦ let h = w.in_default in ? ]
+unreachable-requires c =
+    let (groups, e) = is_forest c.args.n c.args.graph.now _ c.requires.n_bound.0 c.requires.n_bound.1 c.requires.n_bound.2 (omega arith) c.requires.clean _ (rw c.in-Ok-Spoiled.field-0-is at c.in-Ok-Spoiled.ensures) in
+    cc
+
+pub unreachable-requires-in-Err : goal.unreachable-requires-in-Err
+unreachable-requires-in-Err c =
+    let (groups, e) = is_forest c.args.n c.args.graph.now _ c.requires.n_bound.0 c.requires.n_bound.1 c.requires.n_bound.2 (omega arith) c.requires.clean _ c.in-Err.ensures in
+    cc
 
 pub parents-requires : goal.parents-requires
 parents-requires c =
