@@ -1,6 +1,6 @@
 -- An engine's promise determines its answer and what the lent list holds afterwards: two that it allows for the same input
 -- are equal. The refusal decides first, then the size of the tree, then the one best repair. Assumes nothing.
-use mathlib.Core.Path.{◌≡◌, refl, sym, ap, ◌∙◌}
+use mathlib.Core.Path.{◌≡◌, sym, ap, ◌∙◌}
 use mathlib.Core.Bool.{Bool, true, false}
 use mathlib.Core.List.{List, ◌++◌}
 use mathlib.Core.Option.{Option, none, some}

@@ -1,17 +1,15 @@
 -- What the tally at the end means: the answer, the steps and the list that it gives are the promised ones. Assumes nothing.
-use mathlib.Core.Path.{◌≡◌, refl, sym, ap, ap₂, ◌∙◌, subst}
+use mathlib.Core.Path.{◌≡◌, refl, sym, ap, ◌∙◌, subst}
 use mathlib.Core.Logic.{◌⊎◌, inl, inr}
-use mathlib.Core.Bool.{Bool, true, false}
+use mathlib.Core.Bool.{Bool, false}
 use mathlib.Core.List.{List, ◌++◌}
 use mathlib.Core.Option.{Option, none, some}
-use Prim.Native.Nat.{ℕ, ◌-◌, ◌≤◌, ◌<◌}
-use native.Mathlib.Omega.{arith}
-use borrow.Author.Tests.{lt-ltb, le-ltb, eq-eqb, ne_eqb}
-use lib.Dec.{ltb, eqb}
-use lib.ListN.{length, take, drop}
-use Rattle.bits.specs.Choice.{pick}
+use Prim.Native.Nat.{ℕ, ◌≤◌, ◌<◌}
+use borrow.Author.Tests.{lt-ltb, le-ltb}
+use lib.Dec.{ltb}
+use lib.ListN.{length, drop}
 use Rattle.bits.proofs.Truth.{below, pick_true, pick_false}
-use Rattle.std.specs.Prelude.{Ok, Err, None, Some}
+use Rattle.std.specs.Prelude.{Ok, Err, None}
 use Rattle.graph.specs.declared.Refusal.{Refusal}
 use Rattle.graph.specs.Refusal.{first_of}
 use Rattle.graph.specs.Graph.{IsGraph, edge}

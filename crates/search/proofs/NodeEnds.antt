@@ -2,13 +2,13 @@
 use mathlib.Core.Path.{◌≡◌, refl, subst⁻¹}
 use mathlib.Core.Bool.{Bool, true, false, ◌&&◌}
 use mathlib.Core.List.{List}
-use Prim.Native.Nat.{ℕ, suc, ◌+◌, ◌≤◌, ◌<◌}
+use Prim.Native.Nat.{ℕ, ◌+◌, ◌≤◌, ◌<◌}
 use native.Mathlib.Omega.{arith}
 use lib.Dec.{ltb}
 use lib.ListN.{length, take}
 use Rattle.bits.specs.Choice.{pick}
 use Rattle.graph.specs.declared.Quad.{Quad}
-use Rattle.std.specs.Prelude.{Option, None, Some}
+use Rattle.std.specs.Prelude.{None, Some}
 use Rattle.graph.specs.Graph.{word_edge}
 use Rattle.graph.specs.Quad.{quads, first}
 use Rattle.graph.proofs.Quads.{Named, listed_named, first_listed}

@@ -11,7 +11,7 @@ use Rattle.bits.proofs.Truth.{not_in, not_off}
 use Rattle.std.specs.Prelude.{Ok, Err}
 use Rattle.graph.specs.declared.Refusal.{Refusal}
 use Rattle.graph.specs.declared.Refusal.TheVariants.{TooManyVertices, WrongLength, BudgetTooLarge, NoRoom}
-use Rattle.graph.specs.Refusal.{row, first_of}
+use Rattle.graph.specs.Refusal.{first_of}
 use Rattle.graph.specs.Check.{too_many, wrong_length, too_short, entries}
 use Rattle.graph.specs.Price.{price_entries}
 use Rattle.graph.proofs.Refusals.{first_of_next, first_of_here, first_of_fine, row_holds, row_passes, row_fine}

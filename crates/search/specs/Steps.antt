@@ -11,6 +11,8 @@ use Rattle.walk.specs.Best.{best_of}
 use Rattle.repair.specs.Tree.{Node, order, free, add, tree, engine}
 use Rattle.memory.specs.declared.Tally.{Tally}
 use Rattle.memory.specs.Table.{Place, number_at}
+use Rattle.search.specs.declared.tree.Search.{Search}
+use Rattle.search.specs.declared.room.Room.{Room}
 use Rattle.search.specs.Memory.{Safe, Sound, At, Same, Follows}
 
 -- the run below a node, with the fuel f
@@ -100,3 +102,19 @@ pub record WayLeft
 pub record Six (n : ℕ) (places : List ℕ) : Type 0 where
   pub many : length places ≡ 6
   pub each : (w : ℕ) → w < 6 → (get_or places w 0 < 16384) × Place n (get_or places w 0)
+
+-- the same of a search and the room that it works in
+abbrev pub IsReady : Search → Room → ℕ → ℕ → Tally → Type 0
+IsReady s m count spent t = Ready s.n s.most m.words m.cost m.path m.kept count spent t
+
+abbrev pub NodeDone : Search → Room → ℕ → ℕ → Tally → Tally → Room → Type 0
+NodeDone s m count spent t r m' =
+    NodeLeft s.n s.prune s.most m.words m.cost m.path m.kept count spent t r m'.words m'.cost m'.path m'.kept
+
+abbrev pub WaysDone : Search → Room → ℕ → ℕ → List ℕ → Tally → Tally → Room → Type 0
+WaysDone s m count spent places t r m' =
+    WaysLeft s.n s.prune s.most m.words m.cost m.path m.kept count spent places t r m'.words m'.cost m'.path m'.kept
+
+abbrev pub WayDone : Search → Room → ℕ → ℕ → ℕ → Tally → Tally → Room → Type 0
+WayDone s m count spent p t r m' =
+    WayLeft s.n s.prune s.most m.words m.cost m.path m.kept count spent p t r m'.words m'.cost m'.path m'.kept

@@ -12,7 +12,10 @@ ghost use Rattle.search.specs.Ends.{Told, Engaged};
 
 use graph::Refusal;
 use memory::{Tally, trail};
+use room::Room;
+use tree::Search;
 
+pub mod room;
 pub mod tree;
 
 // What an engine answers to a call that passes the checks: 9, more nodes than the step limit; 8, no repair within the budget;
@@ -97,28 +100,24 @@ fn engine(
     requires { Engaged n rows prices.now k list.old }
     ensures { Answered prune n (row_edge rows) (toll_of prices.now) k most list.old result list.new }
 {
-    let mut words = graph::rows::flat_of(rows);
-    let mut cost = bound::prices::costs(n, prices);
-    let mut path = [0u16; 8128];
-    let mut kept = [0u16; 8128];
+    let search = Search {
+        n,
+        prune,
+        most: most as u64,
+    };
+    let mut room = Room {
+        words: graph::rows::flat_of(rows),
+        cost: bound::prices::costs(n, prices),
+        path: [0u16; 8128],
+        kept: [0u16; 8128],
+    };
     let start = Tally {
         steps: 0,
         limit: k,
         kept: None,
     };
-    let t = tree::node(
-        &mut words,
-        &mut cost,
-        &mut path,
-        &mut kept,
-        n,
-        prune,
-        most as u64,
-        0,
-        0,
-        start,
-    );
-    told(t, most, &kept, list)
+    let t = search.node(&mut room, 0, 0, start);
+    told(t, most, &room.kept, list)
 }
 
 // Either engine: the checks, and then the search.

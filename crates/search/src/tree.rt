@@ -1,121 +1,79 @@
 // The search tree, walked by a procedure that calls itself at each node.
 ghost use Rattle.std.specs.Prelude.{◌≡◌, ◌+◌, ◌≤◌, ◌<◌};
 ghost use Rattle.memory.specs.Table.{Place};
-ghost use Rattle.search.specs.Steps.{Ready, Six, NodeLeft, WaysLeft, WayLeft};
+ghost use Rattle.search.specs.Steps.{IsReady, Six, NodeDone, WaysDone, WayDone};
 
+use crate::room::Room;
 use memory::{Tally, leaf, table};
 
-// Entering a node is one step. A node with no quad is a repair; else its ways are tried, unless the node is left.
-#[cycle(node_way_ways)]
-pub fn node(
-    words: &mut [u64],
-    cost: &mut [u16],
-    path: &mut [u16],
-    kept: &mut [u16],
-    n: usize,
-    prune: bool,
-    most: u64,
-    count: usize,
-    spent: u32,
-    t: Tally,
-) -> Tally
-    requires ready { Ready n most words.old cost.old path.old kept.old count spent t }
-    requires steps_le_most { t.steps ≤ most }
-    ensures { NodeLeft n prune most words.old cost.old path.old kept.old count spent t result words.new cost.new path.new kept.new }
-{
-    let here = leaf::entered(t);
-    if most < here.steps {
-        return here;
-    }
-    match graph::seek::first_quad(words, n) {
-        None => leaf::keep(path, kept, count, spent, here),
-        Some(q) => {
-            if leaf::leaves(words, cost, n, prune, spent, here.limit) {
-                return here;
+// What stays the same at every node: the number of vertices, whether the engine prunes, and the step limit.
+#[derive(Clone, Copy)]
+pub struct Search {
+    pub n: usize,
+    pub prune: bool,
+    pub most: u64,
+}
+
+impl Search {
+    // Entering a node is one step. A node with no quad is a repair; else its ways are tried, unless the node is left.
+    #[cycle(node_way_ways)]
+    pub fn node(&self, room: &mut Room, count: usize, spent: u32, t: Tally) -> Tally
+        requires ready { IsReady self.now room.old count spent t }
+        requires steps_le_most { t.steps ≤ self.now.most }
+        ensures { NodeDone self.now room.old count spent t result room.new }
+    {
+        let here = leaf::entered(t);
+        if self.most < here.steps {
+            return here;
+        }
+        match graph::seek::first_quad(&room.words, self.n) {
+            None => leaf::keep(&room.path, &mut room.kept, count, spent, here),
+            Some(q) => {
+                if leaf::leaves(
+                    &room.words,
+                    &room.cost,
+                    self.n,
+                    self.prune,
+                    spent,
+                    here.limit,
+                ) {
+                    return here;
+                }
+                self.ways(room, count, spent, table::places(q), here)
             }
-            ways(
-                words,
-                cost,
-                path,
-                kept,
-                n,
-                prune,
-                most,
-                count,
-                spent,
-                table::places(q),
-                here,
-            )
         }
     }
-}
 
-// The six ways one after the other; then the marks made here go.
-#[cycle(node_way_ways)]
-fn ways(
-    words: &mut [u64],
-    cost: &mut [u16],
-    path: &mut [u16],
-    kept: &mut [u16],
-    n: usize,
-    prune: bool,
-    most: u64,
-    count: usize,
-    spent: u32,
-    places: [u16; 6],
-    t: Tally,
-) -> Tally
-    requires ready { Ready n most words.old cost.old path.old kept.old count spent t }
-    requires six { Six n places }
-    ensures { WaysLeft n prune most words.old cost.old path.old kept.old count spent places t result words.new cost.new path.new kept.new }
-{
-    let old = table::costs(cost, places);
-    let mut tally = t;
-    for p in places {
-        tally = way(
-            words, cost, path, kept, n, prune, most, count, spent, p as usize, tally,
-        );
+    // The six ways one after the other; then the marks made here go.
+    #[cycle(node_way_ways)]
+    fn ways(&self, room: &mut Room, count: usize, spent: u32, places: [u16; 6], t: Tally) -> Tally
+        requires ready { IsReady self.now room.old count spent t }
+        requires six { Six self.now.n places }
+        ensures { WaysDone self.now room.old count spent places t result room.new }
+    {
+        let old = table::costs(&room.cost, places);
+        let mut tally = t;
+        for p in places {
+            tally = self.way(room, count, spent, p as usize, tally);
+        }
+        table::restore(&mut room.cost, places, old);
+        tally
     }
-    table::restore(cost, places, old);
-    tally
-}
 
-// The pair at p is marked; if it is entered it is toggled, that node searched, and toggled back.
-#[cycle(node_way_ways)]
-fn way(
-    words: &mut [u64],
-    cost: &mut [u16],
-    path: &mut [u16],
-    kept: &mut [u16],
-    n: usize,
-    prune: bool,
-    most: u64,
-    count: usize,
-    spent: u32,
-    p: usize,
-    t: Tally,
-) -> Tally
-    requires ready { Ready n most words.old cost.old path.old kept.old count spent t }
-    requires p_bound { (p < 16384) × Place n p }
-    ensures { WayLeft n prune most words.old cost.old path.old kept.old count spent p t result words.new cost.new path.new kept.new }
-{
-    let price = table::mark(cost, p);
-    if !leaf::opens(price, spent, most, t) {
-        return t;
+    // The pair at p is marked; if it is entered it is toggled, that node searched, and toggled back.
+    #[cycle(node_way_ways)]
+    fn way(&self, room: &mut Room, count: usize, spent: u32, p: usize, t: Tally) -> Tally
+        requires ready { IsReady self.now room.old count spent t }
+        requires p_bound { (p < 16384) × Place self.now.n p }
+        ensures { WayDone self.now room.old count spent p t result room.new }
+    {
+        let price = table::mark(&mut room.cost, p);
+        if !leaf::opens(price, spent, self.most, t) {
+            return t;
+        }
+        let at = leaf::enter(&mut room.words, &mut room.path, count, self.n, p);
+        let after = self.node(room, count + 1, leaf::paid(spent, price), t);
+        leaf::leave(&mut room.words, &mut room.path, count, self.n, p, at);
+        after
     }
-    let at = leaf::enter(words, path, count, n, p);
-    let after = node(
-        words,
-        cost,
-        path,
-        kept,
-        n,
-        prune,
-        most,
-        count + 1,
-        leaf::paid(spent, price),
-        t,
-    );
-    leaf::leave(words, path, count, n, p, at);
-    after
 }

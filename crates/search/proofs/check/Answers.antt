@@ -1,5 +1,5 @@
 -- `search::check` meets its contract: the checks in their order, or none finds anything. Assumes nothing.
-use Rattle.std.proofs.Common.{rules, ◌≡◌, Err, sym, ◌∙◌, ap, arith}
+use Rattle.std.proofs.Common.{rules, ◌≡◌, Err, sym, ◌∙◌, arith}
 use Rattle.search.proofs.Refusing.{many_refused, graph_refused, prices_refused, entries_refused, priced_refused, large_refused, short_refused, all_pass}
 use Rattle.search.proofs.check.Goals as goal
 

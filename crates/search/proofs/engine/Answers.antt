@@ -13,7 +13,7 @@ use Rattle.search.proofs.engine.Goals as goal
 pub node-t-requires : goal.node-t-requires
 node-t-requires c =
     record {
-      ready = ready_root _ _ c.requires c.flat_of-words.ensures c.costs-cost.ensures refl refl c.args.most (omega (arith, c.ranges.most));
+      ready = ready_root _ _ c.requires c.flat_of.ensures c.costs.ensures refl refl c.args.most (omega (arith, c.ranges.most));
       steps_le_most = omega arith;
     }
 
@@ -27,6 +27,6 @@ pub returns : goal.returns
 returns c =
     let d = c.node-t in
     let told = c.told in
-    meant c.args.prune c.args.n (row_edge c.args.rows) (toll_of c.args.prices.now) c.args.k c.args.most d.new.kept c.args.list.now d.result
+    meant c.args.prune c.args.n (row_edge c.args.rows) (toll_of c.args.prices.now) c.args.k c.args.most d.new.room.kept c.args.list.now d.result
     c.requires.graph (tolls_positive c.args.n c.args.prices.now c.requires.priced)
-    (followed _ _ c.requires c.flat_of-words.ensures c.costs-cost.ensures refl refl c.args.prune c.args.most d.result d.new.words d.new.cost d.new.path d.new.kept d.ensures) told.result told.new.list told.ensures
+    (followed _ _ c.requires c.flat_of.ensures c.costs.ensures refl refl c.args.prune c.args.most d.result d.new.room.words d.new.room.cost d.new.room.path d.new.room.kept d.ensures) told.result told.new.list told.ensures

@@ -1,0 +1,13 @@
+// The room that all nodes of a search work in.
+ghost use Rattle.std.specs.Prelude.{◌≡◌, length};
+
+// The words of the graph as it is at the present node, the table of costs, the path to the node, and the repair that is kept.
+#[derive(Drop)]
+pub struct Room {
+    pub words: [u64; 256],
+    pub cost: [u16; 16384],
+    pub path: [u16; 8128],
+    pub kept: [u16; 8128],
+    ghost path_len: { length path ≡ 8128 },
+    ghost kept_len: { length kept ≡ 8128 },
+}
