@@ -1,101 +1,41 @@
--- Bytes put into a text one piece behind the other: what is put behind what is written makes one piece with it. The text's
--- length stays. Assumes nothing.
-use mathlib.Core.Path.{◌≡◌, refl, sym, ◌∙◌, ap, ap₂, subst}
+-- Bytes behind what a page has: two pieces are written one behind the other, and each has room where both have. Assumes nothing.
+use mathlib.Core.Path.{◌≡◌, sym, ◌∙◌, ap}
 use mathlib.Core.Logic.{◌⊎◌, inl, inr}
-use mathlib.Core.List.{List, [], ◌∷◌, ◌++◌, append_assoc, append-nil}
+use mathlib.Core.List.{List, [], ◌∷◌, ◌++◌, append_assoc}
 use Prim.Native.Nat.{ℕ, zero, suc, ◌+◌, ◌≤◌, ◌<◌}
-use native.Mathlib.Nat.{add-zero}
 use native.Mathlib.Numerals.{add-one}
 use native.Mathlib.Omega.{arith}
-use lib.ListN.{length, get_or, take, drop, set, length-append, length-drop, take-append-drop}
-use lib.Seq.{length-take-le, take-suc, take_at, drop_at, drop-drop, set_split, append_snoc}
+use lib.ListN.{length, get_or, take, length-append}
+use lib.Seq.{take-suc}
 use Rattle.bits.proofs.Truth.{below}
 use Rattle.graph.specs.Each.{each}
-use Rattle.lines.specs.Put.{Put}
-
--- nothing is put
-pub put_nothing : (old : List ℕ) (at : ℕ) → Put old at [] at old
-put_nothing old at =
-    record {
-      behind = sym (add-zero at);
-      text =
-          sym
-          (ap₂ (λ x k. x ++ drop k old) (append-nil (take at old)) (add-zero at) ∙
-          take-append-drop at old);
-    }
-
--- one byte is stored
-pub put_byte : (old : List ℕ) (at b : ℕ) → at < length old → Put old at (b ∷ []) (at + 1) (set old at b)
-put_byte old at b room =
-    record {
-      behind = refl;
-      text =
-          set_split old at b room ∙ sym (append_snoc (take at old) b (drop (suc at) old)) ∙
-          ap (λ (k : ℕ). take at old ++ (b ∷ []) ++ drop k old) (sym (add-one at));
-    }
-
-module _ (old : List ℕ) (at : ℕ) (first : List ℕ) (room : at + length first ≤ length old) where
-  front_long : length (take at old ++ first) ≡ at + length first
-  front_long = length-append (take at old) first ∙ omega (arith, length-take-le at old (omega arith))
-
-  module _ {r : ℕ} {now : List ℕ} (put : Put old at first r now) where
-    pub put_long : length now ≡ length old
-    put_long =
-        ap length put.text ∙ length-append (take at old ++ first) (drop (at + length first) old) ∙
-        omega (arith, front_long, length-drop (at + length first) old)
-
-    start : take r now ≡ take at old ++ first
-    start =
-        ap₂ take put.behind put.text ∙
-        take_at (take at old ++ first) (drop (at + length first) old) (at + length first) front_long
-
-    rest : drop r now ≡ drop (at + length first) old
-    rest =
-        ap₂ drop put.behind put.text ∙
-        drop_at (take at old ++ first) (drop (at + length first) old) (at + length first) front_long
-
-    module _ (then : List ℕ) where
-      both_long : at + length (first ++ then) ≡ r + length then
-      both_long = omega (arith, length-append first then, put.behind)
-
-      -- the room that is left for what follows
-      pub put_room : at + length (first ++ then) ≤ length old → r + length then ≤ length now
-      put_room enough = omega (arith, both_long, put_long)
-
-      -- what is put behind what is written makes one piece with it
-      pub put_then : {s : ℕ} {after : List ℕ} → Put now r then s after → Put old at (first ++ then) s after
-      put_then more =
-          record {
-            behind = more.behind ∙ sym both_long;
-            text =
-                more.text ∙
-                ap₂ (λ x y. x ++ then ++ y) start
-                (sym (drop-drop (length then) r now) ∙ ap (drop (length then)) rest ∙
-                drop-drop (length then) (at + length first) old ∙ ap (λ (k : ℕ). drop k old) joined) ∙
-                ap (λ x. x ++ drop (at + length (first ++ then)) old) (append_assoc (take at old) first then);
-          }
-        where
-          joined : at + length first + length then ≡ at + length (first ++ then)
-          joined = omega (arith, length-append first then)
 
 -- the same bytes by another name
-pub room_as : (at : ℕ) {long : ℕ} {a b : List ℕ} → a ≡ b → at + length b ≤ long → at + length a ≤ long
-room_as at e room = omega (arith, ap length e)
+pub room_as : (old : List ℕ) {a b : List ℕ} → a ≡ b → length old + length b ≤ 131072 → length old + length a ≤ 131072
+room_as old e room = omega (arith, ap length e)
 
-pub put_as : {old now a b : List ℕ} {at r : ℕ} → a ≡ b → Put old at a r now → Put old at b r now
-put_as {old} {now} {at = at} {r = r} e put = subst (λ l. Put old at l r now) e put
+pub put_as : (old : List ℕ) {now a b : List ℕ} → a ≡ b → now ≡ old ++ a → now ≡ old ++ b
+put_as old e put = put ∙ ap (λ l. old ++ l) e
+
+-- on an empty page
+module _ {old : List ℕ} (empty : old ≡ []) where
+  pub room_alone : (a : List ℕ) → length a ≤ 131072 → length old + length a ≤ 131072
+  room_alone a room = omega (arith, ap length empty)
+
+  pub put_alone : {now a : List ℕ} → now ≡ old ++ a → now ≡ a
+  put_alone {a = a} put = put ∙ ap (λ l. l ++ a) empty
 
 -- two pieces where both have room
-module _ (old : List ℕ) (at : ℕ) (first then : List ℕ) (room : at + length (first ++ then) ≤ length old) where
-  pub first_room : at + length first ≤ length old
+module _ (old first then : List ℕ) (room : length old + length (first ++ then) ≤ 131072) where
+  pub first_room : length old + length first ≤ 131072
   first_room = omega (arith, length-append first then)
 
-  pub then_room : {r : ℕ} {now : List ℕ} → Put old at first r now → r + length then ≤ length now
-  then_room put = put_room old at first first_room put then room
+  module _ {now : List ℕ} (put : now ≡ old ++ first) where
+    pub then_room : length now + length then ≤ 131072
+    then_room = omega (arith, length-append first then, ap length put, length-append old first)
 
-  pub both :
-      {r s : ℕ} {now after : List ℕ} → Put old at first r now → Put now r then s after → Put old at (first ++ then) s after
-  both put more = put_then old at first first_room put then more
+    pub both : {after : List ℕ} → after ≡ now ++ then → after ≡ old ++ (first ++ then)
+    both more = more ∙ ap (λ l. l ++ then) put ∙ append_assoc old first then
 
 -- one piece after the other, for each number in order: the place of the next
 pub each_more : (f : ℕ → List ℕ) (k : ℕ) → each k f ++ f k ≡ each (k + 1) f

@@ -1,18 +1,16 @@
--- The line of a changed pair, and of a parent, in each case. Assumes nothing.
+-- The line of a changed pair in each case. Assumes nothing.
 use mathlib.Core.Path.{◌≡◌, sym, ◌∙◌, ap}
 use mathlib.Core.Logic.{◌≢◌}
-use mathlib.Core.List.{List, ◌++◌}
+use mathlib.Core.List.{List}
 use Prim.Native.Nat.{ℕ, ◌+◌, ◌*◌, ◌/◌, ◌%◌, ◌<◌}
 use native.Mathlib.Nat.{div-add-mod'}
 use lib.ListN.{get_or}
-use borrow.Author.Tests.{eq-eqb, ne_eqb}
 use Rattle.bits.proofs.Truth.{fails, pick_true, pick_false}
 use Rattle.graph.specs.Graph.{edge}
 use Rattle.graph.proofs.Reading.{edge_value, value_edge}
-use Rattle.forest.specs.Order.{nobody}
 use Rattle.scores.proofs.Squares.{row_column}
 use Rattle.lines.specs.Text.{bytes}
-use Rattle.lines.specs.Lines.{said, two, change_line, parent_line}
+use Rattle.lines.specs.Lines.{two, change_line}
 
 -- the pair's own entry tells whether it is an edge
 module _ (n : ℕ) (g : List ℕ) (x : ℕ) (inside : x < n * n) where
@@ -29,11 +27,3 @@ module _ (n : ℕ) (g : List ℕ) (x : ℕ) (inside : x < n * n) where
   unfolding change_line
   change_join h =
       sym (pick_false _ _ (fails (λ t. h (sym own ∙ (edge_value n g (x / n) (x % n) t).2))))
-
-pub parent_none : (v p : ℕ) → p ≡ nobody → said (bytes "parent ") v ++ bytes " -\n" ≡ parent_line v p
-unfolding parent_line
-parent_none v p h = sym (pick_true _ _ (eq-eqb p nobody h))
-
-pub parent_some : (v p : ℕ) → p ≢ nobody → two (bytes "parent ") v (bytes " ") p ≡ parent_line v p
-unfolding parent_line
-parent_some v p h = sym (pick_false _ _ (ne_eqb p nobody h))

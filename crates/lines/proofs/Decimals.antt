@@ -3,10 +3,12 @@
 use mathlib.Core.Path.{◌≡◌, refl, sym, ◌∙◌, ap}
 use mathlib.Core.Logic.{◌⊎◌, inl, inr}
 use mathlib.Core.List.{List, [], ◌∷◌, ◌++◌}
-use Prim.Native.Nat.{ℕ, zero, suc, ◌+◌, ◌*◌, ◌-◌, ◌/◌, ◌%◌, ◌≤◌, ◌<◌}
+use Prim.Native.Nat.{ℕ, zero, suc, ◌+◌, ◌*◌, ◌-◌, ◌/◌, ◌%◌, ◌^◌, ◌≤◌, ◌<◌}
 use native.Mathlib.Omega.{arith}
 use borrow.Author.Tests.{lt-ltb, le-ltb}
 use lib.ListN.{length, get_or, length-append, get_or-append}
+use Rattle.std.specs.Fmt as told
+use Rattle.std.proofs.lemmas.Fmt.{decimal_from_appends, length-decimal-le_succ}
 use Rattle.bits.proofs.Truth.{below, pick_true, pick_false}
 use Rattle.lines.specs.Text.{digit, spelled, decimal}
 
@@ -43,6 +45,14 @@ unfolding decimal
 decimal_large x h =
     spelled_large x x h ∙
     ap (λ l. l ++ (digit (x % 10) ∷ [])) (spelled_fuel x (suc (x / 10)) (x / 10) (omega arith) (omega arith))
+
+-- the library's decimal is the same
+pub decimal_told : (x : ℕ) → x < 2 ^ 64 → told.decimal x ≡ decimal x
+unfolding decimal
+decimal_told x h =
+    sym
+    (decimal_from_appends spelled (record { one = spelled_small; more = spelled_large }) (suc x) x h
+    (omega (arith, length-decimal-le_succ x h)))
 
 -- the number that some digits spell
 abbrev pub value_from : ℕ → List ℕ → ℕ

@@ -7,14 +7,12 @@ use mathlib.Core.List.{List, [], ◌∷◌}
 use Prim.Native.Nat.{ℕ}
 use native.Mathlib.Omega.{arith}
 use lib.ListN.{length}
-use Rattle.graph.specs.declared.Finding.{Finding}
-use Rattle.graph.specs.declared.Finding.TheVariants.{Fine, Fault}
-use Rattle.graph.specs.Refusal.{first_of}
+use Rattle.std.specs.Prelude.{Result, Ok, Err}
+use Rattle.graph.specs.declared.Refusal.{Refusal}
+use Rattle.graph.specs.Refusal.{Finding, first_of, refusal}
 use Rattle.graph.specs.Check.{too_short}
 use Rattle.repair.proofs.Orders.{better_total}
-use Rattle.lines.specs.declared.Answer.{Answer}
-use Rattle.lines.specs.declared.Answer.TheVariants.{Refused, Written}
-use Rattle.lines.specs.Report.{Searched, Mended, page_of, Said, Lines, fault, refusal, Meant, Promise}
+use Rattle.lines.specs.Report.{Searched, Mended, page_of, Said, Lines, fault, Meant, Promise}
 
 module _ (n : ℕ) (e : ℕ → ℕ → Bool) (toll : ℕ → ℕ) where
   same_repair_lem : {a b : List ℕ} (x : Mended n e toll a) (y : Mended n e toll b) → x.repair ≡ y.repair
@@ -33,22 +31,22 @@ pub lines_determined : (sheet : List ℕ) {a b : List ℕ} → Lines sheet a →
 lines_determined sheet {a} {b} = go (fault sheet)
   where
     go : (x : Finding) → Said sheet x a → Said sheet x b → a ≡ b
-    go Fine p q = same_search _ _ _ p q
-    go (Fault number i j) p q = p ∙ sym q
+    go (Ok done) p q = same_search _ _ _ p q
+    go (Err r) p q = p ∙ sym q
 
 module _ (sheet text : List ℕ) where
   same_answer :
-      (lines : List ℕ) (r q : Answer) {x y : List ℕ} → refusal r ≡ refusal q → Meant lines text r x → Meant lines text q y →
+      (lines : List ℕ) (r q : Result ℕ Refusal) {x y : List ℕ} → refusal r ≡ refusal q → Meant lines text r x → Meant lines text q y →
       (r ≡ q) × (x ≡ y)
-  same_answer lines (Refused k i j) (Refused k' i' j') e a b = (cc, a ∙ sym b)
-  same_answer lines (Refused k i j) (Written s) e a b = absurd (let z : ◌≡◌ {A = ℕ} 0 1 = cc in omega arith)
-  same_answer lines (Written s) (Refused k i j) e a b = absurd (let z : ◌≡◌ {A = ℕ} 0 1 = cc in omega arith)
-  same_answer lines (Written s) (Written s') e a b =
+  same_answer lines (Err r) (Err q) e a b = (cc, a ∙ sym b)
+  same_answer lines (Err r) (Ok s) e a b = absurd (let z : ◌≡◌ {A = ℕ} 0 1 = cc in omega arith)
+  same_answer lines (Ok s) (Err r) e a b = absurd (let z : ◌≡◌ {A = ℕ} 0 1 = cc in omega arith)
+  same_answer lines (Ok s) (Ok s') e a b =
       let same : s ≡ s' = a.0 ∙ sym b.0 in
-      (ap Written same, rw same at a.1 ∙ sym b.1)
+      (ap Ok same, rw same at a.1 ∙ sym b.1)
 
   pub report_determined :
-      {r q : Answer} {x y : List ℕ} → Promise sheet text r x → Promise sheet text q y → (r ≡ q) × (x ≡ y)
+      {r q : Result ℕ Refusal} {x y : List ℕ} → Promise sheet text r x → Promise sheet text q y → (r ≡ q) × (x ≡ y)
   report_determined {r} {q} {x} {y} a b =
       let same = lines_determined sheet a.right b.right in
       same_answer a.lines r q

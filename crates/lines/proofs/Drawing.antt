@@ -11,9 +11,9 @@ use lib.Seq.{length-take-le}
 use lib.IntN.{ℤ}
 use borrow.Author.Tests.{le-ltb, eq-eqb}
 use Rattle.bits.proofs.Truth.{not_off}
-use Rattle.graph.specs.declared.Finding.{Finding}
-use Rattle.graph.specs.declared.Finding.TheVariants.{Fine}
-use Rattle.graph.specs.Refusal.{first_of}
+use Rattle.std.specs.Prelude.{Ok}
+use Rattle.graph.specs.declared.Refusal.TheVariants.{TooManyVertices, WrongLength, OffScale, NoRoom}
+use Rattle.graph.specs.Refusal.{Finding, first_of}
 use Rattle.graph.specs.Check.{too_many, too_short}
 use Rattle.graph.specs.Graph.{edge}
 use Rattle.graph.proofs.Refusals.{first_of_next, first_of_single, row_passes}
@@ -23,23 +23,23 @@ use Rattle.scores.specs.Scale.{half, on_scale, threshold_off, scores_off, edge_b
 use Rattle.scores.specs.Drawing.{wrong_count, checks, Promise}
 use Rattle.scores.proofs.Squares.{length_square}
 use Rattle.scores.proofs.Passes.{graph_passes, prices_pass, prices_free}
-use Rattle.lines.specs.Inner.{Checked, Ready, Paged}
+use Rattle.lines.specs.Inner.{Checked, Ready}
 use Rattle.lines.specs.Report.{Searched}
 use Rattle.lines.proofs.Mending.{pair_two}
 
 module _ (n : ℕ) (t : ℤ) (scores : List ℤ) (g ps : List ℕ) (ready : Ready n t scores g ps) where
-  no_fault : first_of (checks n t scores g ps) ≡ Fine
+  no_fault : first_of (checks n t scores g ps) ≡ Ok tt
   unfolding checks too_many wrong_count threshold_off too_short
   no_fault =
-      first_of_next _ _ (row_passes 1 (le-ltb 128 n ready.few)) ∙
-      first_of_next _ _ (row_passes 2 (not_off (eq-eqb (length scores) (half n) ready.counted))) ∙
-      first_of_next _ _ (row_passes 5 (not_off ready.scale)) ∙ first_of_next _ _ (sym ready.scored) ∙
-      first_of_next _ _ (row_passes 10 (le-ltb (length g) (n * n) (omega (arith, ready.bytes)))) ∙ first_of_single _ ∙
-      row_passes 10 (le-ltb (length ps) (n * n) (omega (arith, ready.costs)))
+      first_of_next _ _ (row_passes TooManyVertices (le-ltb 128 n ready.few)) ∙
+      first_of_next _ _ (row_passes WrongLength (not_off (eq-eqb (length scores) (half n) ready.counted))) ∙
+      first_of_next _ _ (row_passes (OffScale 0 0) (not_off ready.scale)) ∙ first_of_next _ _ (sym ready.scored) ∙
+      first_of_next _ _ (row_passes NoRoom (le-ltb (length g) (n * n) (omega (arith, ready.bytes)))) ∙ first_of_single _ ∙
+      row_passes NoRoom (le-ltb (length ps) (n * n) (omega (arith, ready.costs)))
 
   -- the code's threshold is t read back from its bits
   module _ {u : ℤ} {r : Finding} {g' ps' : List ℕ} (same : u ≡ t) (told : Promise n u scores g ps r g' ps') where
-    fine : Promise n t scores g ps Fine g' ps'
+    fine : Promise n t scores g ps (Ok tt) g' ps'
     fine =
         let told' : Promise n t scores g ps r g' ps' = subst (λ (x : ℤ). Promise n x scores g ps r g' ps') same told in
         subst (λ (x : Finding). Promise n t scores g ps x g' ps') (told'.refused ∙ no_fault) told'
@@ -74,11 +74,11 @@ module _ (n : ℕ) (t : ℤ) (scores : List ℤ) (g ps : List ℕ) (ready : Read
         }
 
     pub drawn_paged :
-        {old now : List ℕ} {next : ℕ} → Paged (Searched n (edge n g') (toll_of ps')) old next now →
-        Paged (Searched n (edge n (square n (edge_byte n t scores))) (toll_of (square n (price_entry n t scores)))) old next now
-    drawn_paged {old} {now} {next} page =
-        subst (λ a. Paged (Searched n (edge n a) (toll_of (square n (price_entry n t scores)))) old next now) graph_drawn
-        (subst (λ b. Paged (Searched n (edge n g') (toll_of b)) old next now) prices_drawn page)
+        {now : List ℕ} → Searched n (edge n g') (toll_of ps') now →
+        Searched n (edge n (square n (edge_byte n t scores))) (toll_of (square n (price_entry n t scores))) now
+    drawn_paged {now} page =
+        subst (λ a. Searched n (edge n a) (toll_of (square n (price_entry n t scores))) now) graph_drawn
+        (subst (λ b. Searched n (edge n g') (toll_of b) now) prices_drawn page)
 
 -- the graph and the prices of scores that pass their checks, by themselves
 module _
@@ -88,7 +88,7 @@ module _
     (few : n ≤ 128)
     (counted : length scores ≡ half n)
     (scale : on_scale t ≡ true)
-    (scored : Fine ≡ scores_off n scores) where
+    (scored : Ok tt ≡ scores_off n scores) where
   abbrev graph : List ℕ
   graph = square n (edge_byte n t scores)
 
@@ -137,7 +137,7 @@ module _ (n : ℕ) {t u : ℤ} (list : List ℤ) (same : u ≡ t) (few : n ≤ 1
   firsts_told = ap (λ (m : ℕ). take m list) (half_told n)
 
   pub list_ready :
-      (graph prices : List ℕ) → on_scale t ≡ true → Fine ≡ scores_off n (take (half n) list) → length graph ≡ 16384 → length prices ≡ 16384 →
+      (graph prices : List ℕ) → on_scale t ≡ true → Ok tt ≡ scores_off n (take (half n) list) → length graph ≡ 16384 → length prices ≡ 16384 →
       Ready n u firsts (take (n * n) graph) (take (n * n) prices)
   list_ready graph prices scale scored wide high =
       record {
@@ -150,10 +150,7 @@ module _ (n : ℕ) {t u : ℤ} (list : List ℤ) (same : u ≡ t) (few : n ≤ 1
       }
 
   pub list_paged :
-      {old now : List ℕ} {next : ℕ} →
-      Paged (Searched n (edge n (square n (edge_byte n u firsts))) (toll_of (square n (price_entry n u firsts)))) old next now →
-      Paged
-      (Searched n (edge n (square n (edge_byte n t (take (half n) list))))
-      (toll_of (square n (price_entry n t (take (half n) list)))))
-      old next now
-  list_paged {old} {now} {next} page = rw (firsts_told, same) at page
+      {now : List ℕ} → Searched n (edge n (square n (edge_byte n u firsts))) (toll_of (square n (price_entry n u firsts))) now →
+      Searched n (edge n (square n (edge_byte n t (take (half n) list))))
+      (toll_of (square n (price_entry n t (take (half n) list)))) now
+  list_paged page = rw (firsts_told, same) at page

@@ -13,7 +13,7 @@ use lib.Dec.{eqb}
 use borrow.Author.Tests.{eqb-true, eq-eqb}
 use Rattle.bits.specs.Choice.{pick}
 use Rattle.bits.proofs.Truth.{never, which, same, equal, fails, and_in, and_left, and_right, pick_true, pick_false}
-use Rattle.graph.specs.declared.Finding.TheVariants.{Fine}
+use Rattle.std.specs.Prelude.{Ok}
 use Rattle.graph.specs.Graph.{IsGraph, edge, flipped}
 use Rattle.graph.specs.Check.{entries}
 use Rattle.graph.proofs.Reading.{small_good, entry_fine, fine_entries, edge_value, value_edge, entries_small}
@@ -75,7 +75,7 @@ module _ (n : ℕ) (e : ℕ → ℕ → Bool) where
         value_edge n (drawn_of n e) i j at.0 at.1 (drawn_at i j at.0 at.1 ∙ pick_true 1 0 h))))
 
     -- the checks 3 and 4 find nothing
-    pub drawn_fine : entries n (drawn_of n e) ≡ Fine
+    pub drawn_fine : entries n (drawn_of n e) ≡ Ok tt
     drawn_fine =
         fine_entries n (drawn_of n e) (λ i j hi hj.
         entry_fine n (drawn_of n e) i j
@@ -84,7 +84,7 @@ module _ (n : ℕ) (e : ℕ → ℕ → Bool) where
         (drawn_at i j hi hj ∙ ap (λ t. pick t 1 0) (graph.mirrored i j) ∙ sym (drawn_at j i hj hi)))
 
 -- bytes that pass the checks are such bytes
-pub fine_drawn : (n : ℕ) (g : List ℕ) → length g ≡ n * n → entries n g ≡ Fine → g ≡ drawn_of n (edge n g)
+pub fine_drawn : (n : ℕ) (g : List ℕ) → length g ≡ n * n → entries n g ≡ Ok tt → g ≡ drawn_of n (edge n g)
 fine_drawn n g long ok = drawn_is n (edge n g) g long (λ i j hi hj. go i j hi hj (equal (get_or g (i * n + j) 0) 1))
   where
     go :

@@ -12,10 +12,11 @@ use lib.Dec.{ltb}
 use borrow.Author.Tests.{le-ltb}
 use Rattle.bits.specs.Choice.{pick}
 use Rattle.bits.proofs.Truth.{and_left}
-use Rattle.graph.specs.declared.Finding.{Finding}
-use Rattle.graph.specs.declared.Finding.TheVariants.{Fine, Fault}
+use Rattle.std.specs.Prelude.{Result, Ok, Err}
+use Rattle.graph.specs.declared.Refusal.{Refusal}
+use Rattle.graph.specs.declared.Refusal.TheVariants.{TooManyVertices, OffScale, NoRoom, BadSheet}
 use Rattle.graph.specs.Each.{each, only}
-use Rattle.graph.specs.Refusal.{row, first_of}
+use Rattle.graph.specs.Refusal.{Finding, number, row_at, column_at, row, first_of}
 use Rattle.graph.specs.Check.{too_many, too_short}
 use Rattle.graph.specs.Graph.{edge}
 use Rattle.graph.proofs.Leading.{first_of_leading, fault_not_fine}
@@ -33,35 +34,33 @@ use Rattle.scores.specs.Sheet.{size_of, threshold_of, scores_of, notes_of, score
 use Rattle.scores.proofs.Squares.{length_each}
 use Rattle.scores.proofs.Sheets.{laid, sound}
 use Rattle.lines.specs.Report.{limit, nodes, page_of, fault, graph_of, prices_of, Mended, Said, Lines, Promise}
-use Rattle.lines.specs.declared.Answer.{Answer}
-use Rattle.lines.specs.declared.Answer.TheVariants.{Refused, Written}
 use Rattle.lines.specs.Inner.{Checked}
 use Rattle.lines.proofs.Bounds.{page_short, refusal_short, stopped_short}
 use Rattle.lines.proofs.Mending.{listed_inside}
 use Rattle.lines.proofs.Drawing.{squares_checked}
 
-enough : (text : List ℕ) (m : ℕ) → m ≤ length text → too_short text m ≡ Fine
+enough : (text : List ℕ) (m : ℕ) → m ≤ length text → too_short text m ≡ Ok tt
 unfolding too_short
-enough text m h = row_passes 10 (le-ltb (length text) m h)
+enough text m h = row_passes NoRoom (le-ltb (length text) m h)
 
-fine_sheet : (sheet : List ℕ) → fault sheet ≡ Fine → sheet_fault sheet ≡ Fine
+fine_sheet : (sheet : List ℕ) → fault sheet ≡ Ok tt → sheet_fault sheet ≡ Ok tt
 unfolding fault
-fine_sheet sheet e = first_of_fine (row 11 (ltb 49032 (length sheet)) ∷ sheet_fault sheet ∷ []) e 1
+fine_sheet sheet e = first_of_fine (row BadSheet (ltb 49032 (length sheet)) ∷ sheet_fault sheet ∷ []) e 1
 
 -- a finding with a number of the table and a place inside
 abbrev Small : Finding → Type 0
-Small Fine = Unit
-Small (Fault number i j) = (number ≤ 11) × (i ≤ 128) × (j ≤ 128)
+Small (Ok done) = Unit
+Small (Err r) = (number r ≤ 11) × (row_at r ≤ 128) × (column_at r ≤ 128)
 
-small_row : (number : ℕ) (b : Bool) → number ≤ 11 → Small (row number b)
+small_row : (r : Refusal) (b : Bool) → Small (Err r) → Small (row r b)
 unfolding row
-small_row number true h = (h, omega arith, omega arith)
-small_row number false h = tt
+small_row r true h = h
+small_row r false h = tt
 
-small_next : (x : Finding) (xs : List Finding) → Small x → (x ≡ Fine → Small (first_of xs)) → Small (first_of (x ∷ xs))
+small_next : (x : Finding) (xs : List Finding) → Small x → (x ≡ Ok tt → Small (first_of xs)) → Small (first_of (x ∷ xs))
 unfolding first_of
-small_next Fine xs a b = b refl
-small_next (Fault number i j) xs a b = a
+small_next (Ok done) xs a b = b refl
+small_next (Err r) xs a b = a
 
 small_none : Small (first_of [])
 unfolding first_of
@@ -73,7 +72,7 @@ small_each f zero h = small_none
 small_each f (suc n) h = go (first_of_leading.decides (first_of (each n f))) (small_each f n (λ k l. h k (omega arith)))
   where
     go :
-        (first_of (each n f) ≡ Fine) ⊎ (first_of (each n f) ≢ Fine) → Small (first_of (each n f)) →
+        (first_of (each n f) ≡ Ok tt) ⊎ (first_of (each n f) ≢ Ok tt) → Small (first_of (each n f)) →
         Small (first_of (each n f ++ f n))
     go (inl e) s = subst Small (sym (first_of_leading.skips (each n f) (f n) e)) (h n (omega arith))
     go (inr e) s = subst Small (sym (first_of_leading.stays (each n f) (f n) e)) s
@@ -85,29 +84,29 @@ small_scores n scores few =
     (λ i hi. small_each (λ j. only (ltb i j) (score_off n scores i j)) n (λ j hj. go i j hi hj (ltb i j) (on_scale (score_of n scores i j))))
   where
     go :
-        (i j : ℕ) → i < n → j < n → (b c : Bool) → Small (first_of (pick b (pick c Fine (Fault 5 i j) ∷ []) []))
-    go i j hi hj true true = small_next Fine [] tt (λ e. small_none)
-    go i j hi hj true false = small_next (Fault 5 i j) [] (omega arith, omega arith, omega arith) (λ e. small_none)
+        (i j : ℕ) → i < n → j < n → (b c : Bool) → Small (first_of (pick b (pick c (Ok tt) (Err (OffScale i j)) ∷ []) []))
+    go i j hi hj true true = small_next (Ok tt) [] tt (λ e. small_none)
+    go i j hi hj true false = small_next (Err (OffScale i j)) [] (omega arith, omega arith, omega arith) (λ e. small_none)
     go i j hi hj false c = small_none
 
 small_sheet : (sheet : List ℕ) → Small (sheet_fault sheet)
 unfolding sheet_fault layout_fault too_many threshold_off
 small_sheet sheet =
     small_next (layout_fault sheet) _
-    (small_next _ _ (small_row 11 (ltb (length sheet) 8) (omega arith)) (λ e.
-    small_next _ _ (small_row 1 (ltb 128 (size_of sheet)) (omega arith)) (λ e.
-    small_next _ _ (small_row 11 (wrong_layout sheet (notes_of sheet) (size_of sheet)) (omega arith)) (λ e. small_none))))
+    (small_next _ _ (small_row BadSheet (ltb (length sheet) 8) (omega arith, omega arith, omega arith)) (λ e.
+    small_next _ _ (small_row TooManyVertices (ltb 128 (size_of sheet)) (omega arith, omega arith, omega arith)) (λ e.
+    small_next _ _ (small_row BadSheet (wrong_layout sheet (notes_of sheet) (size_of sheet)) (omega arith, omega arith, omega arith)) (λ e. small_none))))
     (λ e.
-    small_next _ _ (small_row 5 _ (omega arith)) (λ e₂.
+    small_next _ _ (small_row (OffScale 0 0) _ (omega arith, omega arith, omega arith)) (λ e₂.
     small_next _ _ (small_scores (size_of sheet) (scores_of sheet) (laid sheet (sym e)).few) (λ e₃. small_none)))
 
 small_fault : (sheet : List ℕ) → Small (fault sheet)
 unfolding fault
 small_fault sheet =
-    small_next _ _ (small_row 11 (ltb 49032 (length sheet)) (omega arith)) (λ e.
+    small_next _ _ (small_row BadSheet (ltb 49032 (length sheet)) (omega arith, omega arith, omega arith)) (λ e.
     small_next _ _ (small_sheet sheet) (λ e₂. small_none))
 
-module _ (sheet : List ℕ) (right : Fine ≡ sheet_fault sheet) where
+module _ (sheet : List ℕ) (right : Ok tt ≡ sheet_fault sheet) where
   pub sheet_checked : Checked (size_of sheet) (graph_of sheet) (prices_of sheet)
   unfolding graph_of prices_of scores_of
   sheet_checked =
@@ -139,15 +138,15 @@ pub lines_short : (sheet lines : List ℕ) → Lines sheet lines → length line
 lines_short sheet lines said = go (fault sheet) refl (small_fault sheet) said
   where
     go : (x : Finding) → fault sheet ≡ x → Small x → Said sheet x lines → length lines ≤ 131072
-    go (Fault number i j) e s p =
-        omega (arith, ap length p, refusal_short number i j (omega (arith, s)) (omega (arith, s)) (omega (arith, s)))
-    go Fine e s (inl stop) = omega (arith, ap length stop.line, stopped_short limit (omega arith))
-    go Fine e s (inr m) = mended_short sheet (sym (fine_sheet sheet e)) m
+    go (Err r) e s p =
+        omega (arith, ap length p, refusal_short (number r) (row_at r) (column_at r) (omega (arith, s)) (omega (arith, s)) (omega (arith, s)))
+    go (Ok done) e s (inl stop) = omega (arith, ap length stop.line, stopped_short limit (omega arith))
+    go (Ok done) e s (inr m) = mended_short sheet (sym (fine_sheet sheet e)) m
 
 -- whoever lends 131,072 bytes gets the lines
-pub never_refused : (sheet text : List ℕ) (r : Answer) {after : List ℕ} → Promise sheet text r after → 131072 ≤ length text → (size : ℕ) × (r ≡ Written size)
-never_refused sheet text (Written size) p room = (size, refl)
-never_refused sheet text (Refused number i j) p room =
+pub never_refused : (sheet text : List ℕ) (r : Result ℕ Refusal) {after : List ℕ} → Promise sheet text r after → 131072 ≤ length text → (size : ℕ) × (r ≡ Ok size)
+never_refused sheet text (Ok size) p room = (size, refl)
+never_refused sheet text (Err r) p room =
     absurd
     (fault_not_fine
     (p.refused ∙ first_of_single (too_short text (length p.lines)) ∙ enough text (length p.lines) (omega (arith, lines_short sheet p.lines p.right))))

@@ -4,7 +4,7 @@ use mathlib.Core.Bool.{Bool}
 use mathlib.Core.List.{List}
 use Prim.Native.Nat.{ℕ, ◌*◌}
 use lib.ListN.{length}
-use Rattle.graph.specs.declared.Finding.TheVariants.{Fine}
+use Rattle.std.specs.Prelude.{Ok}
 use Rattle.graph.specs.Graph.{IsGraph, edge}
 use Rattle.graph.specs.Check.{entries}
 use Rattle.repair.specs.Repair.{toggled}
@@ -19,5 +19,5 @@ module _ (n : ℕ) (e : ℕ → ℕ → Bool) (repair : List ℕ) (graph : IsGra
   pub mended_long : length after ≡ n * n
   mended_long = ap length mended ∙ drawn_long n (toggled n e repair)
 
-  pub mended_fine : entries n after ≡ Fine
+  pub mended_fine : entries n after ≡ Ok tt
   mended_fine = ap (entries n) mended ∙ drawn_fine n (toggled n e repair) (toggled_graph n e graph repair)

@@ -3,7 +3,7 @@
 use mathlib.Core.Path.{◌≡◌, refl, sym, ◌∙◌, ap, ap₂, subst}
 use mathlib.Core.Logic.{inl, inr}
 use mathlib.Core.Bool.{true}
-use mathlib.Core.List.{List, ◌++◌}
+use mathlib.Core.List.{List}
 use Prim.Native.Nat.{ℕ, ◌*◌, ◌-◌, ◌/◌, ◌≤◌}
 use native.Mathlib.Nat.{mul-le-mul}
 use native.Mathlib.Omega.{arith}
@@ -11,7 +11,9 @@ use lib.ListN.{length, take, drop, length-append}
 use lib.Seq.{take_at}
 use borrow.Author.Tests.{le-ltb, eq-eqb}
 use Rattle.bits.proofs.Truth.{and_left, not_off}
-use Rattle.graph.specs.declared.Finding.TheVariants.{Fine}
+use Rattle.std.specs.Prelude.{Result, Ok, Err}
+use Rattle.graph.specs.declared.Refusal.{Refusal}
+use Rattle.graph.specs.declared.Refusal.TheVariants.{TooManyVertices, WrongLength, BudgetTooLarge, NoRoom}
 use Rattle.graph.specs.Check.{too_many, wrong_length, too_short}
 use Rattle.graph.specs.Refusal.{first_of}
 use Rattle.graph.specs.Graph.{IsGraph, edge}
@@ -26,19 +28,17 @@ use Rattle.repair.proofs.Room.{room_most}
 use Rattle.repair.proofs.Toggling.{toggled_graph}
 use Rattle.repair.proofs.Always.{always_repair}
 use Rattle.search.specs.declared.Answer.{Answer}
-use Rattle.search.specs.declared.Answer.TheVariants.{Refused, Stopped, Nothing, Repaired}
+use Rattle.search.specs.declared.Answer.TheVariants.{Stopped, Nothing, Repaired}
 use Rattle.search.specs.Answer.{Promise, Over, Best, checks, too_large}
 use Rattle.search.specs.Memory.{pairs}
-use Rattle.lines.specs.Lines.{stopped_line, vertices_line, answer_line, change_lines, tree_lines}
-use Rattle.lines.specs.Put.{Put}
-use Rattle.lines.specs.Inner.{drawn_of, Paged, Checked}
+use Rattle.lines.specs.Lines.{stopped_line}
+use Rattle.lines.specs.Inner.{drawn_of, repair_lines, Checked}
 use Rattle.lines.specs.Report as report
-use Rattle.lines.proofs.Behind.{put_as}
 use Rattle.lines.proofs.Bounds.{page_short}
 use Rattle.lines.proofs.Mending.{listed_inside}
 use Rattle.lines.proofs.Drawn.{fine_drawn}
 
-abbrev pub Answered : ℕ → List ℕ → List ℕ → List ℕ → Answer → List ℕ → Type 0
+abbrev pub Answered : ℕ → List ℕ → List ℕ → List ℕ → Result Answer Refusal → List ℕ → Type 0
 Answered n g ps list r after = Promise true n g ps report.budget report.limit list r after
 
 -- n(n-1)/2 is at most 8,128
@@ -49,48 +49,41 @@ pairs_few n few =
     omega arith
 
 module _ (n : ℕ) (g ps list : List ℕ) (ok : Checked n g ps) (room : length list ≡ 8128) where
-  no_fault : first_of (checks n g ps report.budget list) ≡ Fine
+  no_fault : first_of (checks n g ps report.budget list) ≡ Ok tt
   unfolding checks too_many wrong_length too_large too_short pairs
   no_fault =
-      first_of_next _ _ (row_passes 1 (le-ltb 128 n ok.few)) ∙
-      first_of_next _ _ (row_passes 2 (not_off (eq-eqb (length g) (n * n) ok.bytes))) ∙
-      first_of_next _ _ (row_passes 2 (not_off (eq-eqb (length ps) (n * n) ok.costs))) ∙
+      first_of_next _ _ (row_passes TooManyVertices (le-ltb 128 n ok.few)) ∙
+      first_of_next _ _ (row_passes WrongLength (not_off (eq-eqb (length g) (n * n) ok.bytes))) ∙
+      first_of_next _ _ (row_passes WrongLength (not_off (eq-eqb (length ps) (n * n) ok.costs))) ∙
       first_of_next _ _ ok.fine ∙ first_of_next _ _ ok.priced ∙
-      first_of_next _ _ (row_passes 7 refl) ∙ first_of_single _ ∙
-      row_passes 10 (le-ltb (length list) (n * (n - 1) / 2) (omega (arith, pairs_few n ok.few)))
+      first_of_next _ _ (row_passes BudgetTooLarge refl) ∙ first_of_single _ ∙
+      row_passes NoRoom (le-ltb (length list) (n * (n - 1) / 2) (omega (arith, pairs_few n ok.few)))
 
-  module _ {r : Answer} {after : List ℕ} (told : Answered n g ps list r after) where
-    pub not_refused : {number i j : ℕ} → r ≡ Refused number i j → ⊥
+  module _ {r : Result Answer Refusal} {after : List ℕ} (told : Answered n g ps list r after) where
+    pub not_refused : {why : Refusal} → r ≡ Err why → ⊥
     not_refused e =
         fault_not_fine ((subst (λ x. Answered n g ps list x after) e told).refused ∙ no_fault)
 
     -- "Eight cannot occur here."
-    pub not_nothing : {steps : ℕ} → r ≡ Nothing steps → ⊥
+    pub not_nothing : {steps : ℕ} → r ≡ Ok (Nothing steps) → ⊥
     not_nothing e =
         let none = (subst (λ x. Answered n g ps list x after) e told).meant in
         let (all_edges, is, cheap) = always_repair n (edge n g) (entries_graph n g ok.fine) (toll_of ps) ok.loose ok.few in
         let dear = none.best all_edges is in
         omega arith
 
-    pub stopped : {steps : ℕ} → r ≡ Stopped steps → Over true n (edge n g) (toll_of ps) report.budget report.limit list steps after
+    pub stopped : {steps : ℕ} → r ≡ Ok (Stopped steps) → Over true n (edge n g) (toll_of ps) report.budget report.limit list steps after
     stopped e = (subst (λ x. Answered n g ps list x after) e told).meant
 
     pub repaired :
-        {cost count steps : ℕ} → r ≡ Repaired cost count steps →
+        {cost count steps : ℕ} → r ≡ Ok (Repaired cost count steps) →
         Best true n (edge n g) (toll_of ps) report.budget report.limit list cost count steps after
     repaired e = (subst (λ x. Answered n g ps list x after) e told).meant
 
   -- it is stopped
   module _ {steps : ℕ} {after : List ℕ} (over : Over true n (edge n g) (toll_of ps) report.budget report.limit list steps after) where
-    pub stopped_paged :
-        {old now : List ℕ} {next : ℕ} → Put old 0 (stopped_line steps) next now →
-        Paged (report.Searched n (edge n g) (toll_of ps)) old next now
-    stopped_paged put =
-        record {
-          lines = stopped_line report.limit;
-          right = inl (record { over = over.more; line = refl });
-          put = put_as (ap stopped_line over.limit) put;
-        }
+    pub stopped_paged : {now : List ℕ} → now ≡ stopped_line steps → report.Searched n (edge n g) (toll_of ps) now
+    stopped_paged put = inl (record { over = over.more; line = put ∙ ap stopped_line over.limit })
 
   -- it finds a repair
   module _ {cost count steps : ℕ} {after : List ℕ} (best : Best true n (edge n g) (toll_of ps) report.budget report.limit list cost count steps after) where
@@ -117,9 +110,7 @@ module _ (n : ℕ) (g ps list : List ℕ) (ok : Checked n g ps) (room : length l
     graph_of_lem = entries_graph n g ok.fine
 
     abbrev page : List ℕ → List ℕ
-    page repair =
-        (vertices_line n ++ answer_line cost (length repair) steps) ++ change_lines n (edge n g) repair ++
-        tree_lines n (toggled n (edge n g) repair)
+    page repair = repair_lines n (edge n g) repair cost steps
 
     pub page_room : length (page (take count after)) ≤ 131072
     page_room =
@@ -143,14 +134,7 @@ module _ (n : ℕ) (g ps list : List ℕ) (ok : Checked n g ps) (room : length l
     unfolding report.page_of
     whole =
         ap page listed ∙
-        ap₂ (λ c s. (vertices_line n ++ answer_line c (length found) s) ++ change_lines n (edge n g) found ++ tree_lines n (toggled n (edge n g) found)) best.paid best.counted
+        ap₂ (λ c s. repair_lines n (edge n g) found c s) best.paid best.counted
 
-    pub repaired_paged :
-        {old now : List ℕ} {next : ℕ} → Put old 0 (page (take count after)) next now →
-        Paged (report.Searched n (edge n g) (toll_of ps)) old next now
-    repaired_paged put =
-        record {
-          lines = report.page_of n (edge n g) (toll_of ps) found;
-          right = inr (record { within = best.within; repair = found; best = best.best; lines = refl });
-          put = put_as whole put;
-        }
+    pub repaired_paged : {now : List ℕ} → now ≡ page (take count after) → report.Searched n (edge n g) (toll_of ps) now
+    repaired_paged put = inr (record { within = best.within; repair = found; best = best.best; lines = put ∙ whole })

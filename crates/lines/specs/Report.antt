@@ -1,9 +1,9 @@
 -- What `report` promises, for every input: which lines, and what the lent text holds afterwards. Assumes nothing.
-use Rattle.std.specs.Prelude.{◌≡◌, ◌⊎◌, Bool, true, List, [], ◌∷◌, ◌++◌, ℕ, ◌≤◌, ◌<◌, length, drop, ltb}
+use Rattle.std.specs.Prelude.{◌≡◌, ◌⊎◌, Bool, true, List, [], ◌∷◌, ◌++◌, ℕ, ◌≤◌, ◌<◌, length, drop, ltb, Result, Ok, Err}
 use Rattle.std.proofs.Math.Option.{some}
-use Rattle.graph.specs.declared.Finding.{Finding}
-use Rattle.graph.specs.declared.Finding.TheVariants.{Fine, Fault}
-use Rattle.graph.specs.Refusal.{row, first_of}
+use Rattle.graph.specs.declared.Refusal.{Refusal}
+use Rattle.graph.specs.declared.Refusal.TheVariants.{BadSheet}
+use Rattle.graph.specs.Refusal.{Finding, number, row_at, column_at, row, first_of, refusal}
 use Rattle.graph.specs.Check.{too_short}
 use Rattle.graph.specs.Graph.{edge}
 use Rattle.walk.specs.Best.{IsBest}
@@ -13,8 +13,6 @@ use Rattle.repair.specs.Tree.{order, walked}
 use Rattle.scores.specs.Scale.{edge_byte, price_entry, square}
 use Rattle.scores.specs.Sheet.{size_of, threshold_of, scores_of}
 use Rattle.scores.specs.Reader.{sheet_fault}
-use Rattle.lines.specs.declared.Answer.{Answer}
-use Rattle.lines.specs.declared.Answer.TheVariants.{Refused, Written}
 use Rattle.lines.specs.Lines.{
   refusal_line,
   stopped_line,
@@ -63,7 +61,7 @@ module _ (n : ℕ) (e : ℕ → ℕ → Bool) (toll : ℕ → ℕ) where
 
 -- "Input above 49,032 bytes gets 11", before anything in it is looked at; else what the reader refuses, which has room
 unfoldable pub fault : List ℕ → Finding
-fault sheet = first_of (row 11 (ltb 49032 (length sheet)) ∷ sheet_fault sheet ∷ [])
+fault sheet = first_of (row BadSheet (ltb 49032 (length sheet)) ∷ sheet_fault sheet ∷ [])
 
 -- the graph and the prices of a sheet, row by row
 unfoldable pub graph_of : List ℕ → List ℕ
@@ -74,24 +72,19 @@ prices_of sheet = square (size_of sheet) (price_entry (size_of sheet) (threshold
 
 -- "any refusal prints one line", and nothing else
 abbrev pub Said : List ℕ → Finding → List ℕ → Type 0
-Said sheet (Fault number i j) text = text ≡ refusal_line number i j
-Said sheet Fine text = Searched (size_of sheet) (edge (size_of sheet) (graph_of sheet)) (toll_of (prices_of sheet)) text
+Said sheet (Err r) text = text ≡ refusal_line (number r) (row_at r) (column_at r)
+Said sheet (Ok done) text = Searched (size_of sheet) (edge (size_of sheet) (graph_of sheet)) (toll_of (prices_of sheet)) text
 
 -- the lines of a sheet
 abbrev pub Lines : List ℕ → List ℕ → Type 0
 Lines sheet text = Said sheet (fault sheet) text
 
--- this paper's number and place of each answer
-abbrev pub refusal : Answer → Finding
-refusal (Refused number i j) = Fault number i j
-refusal (Written size) = Fine
-
 -- "every lent buffer is then unchanged" of a refusal; else the lines, and "Entries beyond what is written stay"
-abbrev pub Meant : List ℕ → List ℕ → Answer → List ℕ → Type 0
-Meant lines text (Refused number i j) after = after ≡ text
-Meant lines text (Written size) after = (size ≡ length lines) × (after ≡ lines ++ drop size text)
+abbrev pub Meant : List ℕ → List ℕ → Result ℕ Refusal → List ℕ → Type 0
+Meant lines text (Err r) after = after ≡ text
+Meant lines text (Ok size) after = (size ≡ length lines) × (after ≡ lines ++ drop size text)
 
-pub record Promise (sheet text : List ℕ) (r : Answer) (after : List ℕ) : Type 0 where
+pub record Promise (sheet text : List ℕ) (r : Result ℕ Refusal) (after : List ℕ) : Type 0 where
   pub lines : List ℕ
   pub right : Lines sheet lines
   -- "Room wanted: .. the whole length for a sheet or other text"

@@ -9,32 +9,20 @@ mod page;
 mod sheet;
 mod text;
 
-// What `report` answers: a refusal with its number and place, or the length of the lines.
-#[derive(Clone, Copy)]
-pub enum Answer {
-    Refused {
-        number: u32,
-        row: usize,
-        column: usize,
-    },
-    Written {
-        size: usize,
-    },
-}
+use graph::Refusal;
+use text::Page;
 
-// The lines of any input, from the text's start.
-pub fn report(sheet: &[u8], text: &mut [u8]) -> Answer
+// The lines of any input, from the text's start, and their length.
+pub fn report(sheet: &[u8], text: &mut [u8]) -> Result<usize, Refusal>
     ensures { Promise sheet.now text.old result text.new }
 {
-    let mut page = [0u8; 131072];
-    let size = sheet::lines_of(sheet, &mut page);
+    let mut page = Page::new();
+    sheet::lines_of(sheet, &mut page);
+    let lines = page.written();
+    let size = lines.len();
     if text.len() < size {
-        return Answer::Refused {
-            number: 10,
-            row: 0,
-            column: 0,
-        };
+        return Err(Refusal::NoRoom);
     }
-    text::put(text, 0, &page[..size]);
-    Answer::Written { size }
+    text[..size].copy_from_slice(lines);
+    Ok(size)
 }

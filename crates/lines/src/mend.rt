@@ -10,11 +10,7 @@ fn turn(graph: &mut [u8], p: usize)
     requires { p < length graph.old }
     ensures { graph.new ≡ turned graph.old p }
 {
-    if graph[p] == 1 {
-        graph[p] = 0;
-        return;
-    }
-    graph[p] = 1;
+    graph[p] = u8::from(graph[p] != 1);
 }
 
 // The pair x is toggled, in both its rows.
@@ -36,9 +32,7 @@ pub fn mend(graph: &mut [u8], n: usize, repair: &[u16])
     requires repair_value { (ascending repair.now ≡ true) × (all (is_pair n) repair.now ≡ true) }
     ensures { graph.new ≡ drawn_of n (toggled n (edge n graph.old) repair.now) }
 {
-    let mut k = 0;
-    while k < repair.len() {
-        toggle(graph, n, repair[k] as usize);
-        k += 1;
+    for x in repair {
+        toggle(graph, n, *x as usize);
     }
 }

@@ -1,85 +1,103 @@
-// Words and numbers put into a lent text from a place on; each function gives the place behind.
-ghost use Rattle.std.specs.Prelude.{◌≡◌, ◌+◌, ◌≤◌, ◌<◌, length};
-ghost use Rattle.lines.specs.Text.{digit, decimal};
-ghost use Rattle.lines.specs.Put.{Put};
+// The page that the lines are written on, in fixed room: each word and number stands behind what is written.
+ghost use Rattle.std.specs.Prelude.{◌≡◌, ℕ, ◌+◌, ◌≤◌, List, [], ◌++◌, length, take};
+ghost use Rattle.lines.specs.declared.text.TheConstants.{ROOM};
+ghost use Rattle.lines.specs.Text.{decimal};
 ghost use Rattle.lines.specs.Lines.{said, one, two, three};
 
-// The bytes of a word.
-pub fn put(text: &mut [u8], at: usize, word: &[u8]) -> usize
-    requires { at + length word.now ≤ length text.old }
-    ensures { Put text.old at word.now result text.new }
-{
-    let mut k = 0;
-    while k < word.len() {
-        text[at + k] = word[k];
-        k += 1;
+use itoa::Buffer;
+use std::marker::Model;
+
+// The bytes that a page has room for.
+pub const ROOM: usize = 131072;
+
+#[derive(Drop)]
+pub struct Page {
+    text: [u8; ROOM],
+    end: usize,
+}
+
+// Clauses see the bytes that are written.
+impl Model for Page {
+    ghost Value = { List ℕ };
+
+    ghost view = { λ p. take p.end p.text };
+
+    ghost invariant = { λ p. p.end ≤ ROOM };
+}
+
+impl Page {
+    // Nothing is written.
+    pub fn new() -> Page
+        ensures { result ≡ [] }
+    {
+        Page {
+            text: [0; ROOM],
+            end: 0,
+        }
     }
-    at + k
-}
 
-// The byte of a digit.
-fn digit_of(d: usize) -> u8
-    requires { d < 10 }
-    ensures { result ≡ digit d }
-{
-    48 + d as u8
-}
-
-// A number in decimal, without leading zeros.
-pub fn number(text: &mut [u8], at: usize, x: usize) -> usize
-    requires { at + length (decimal x) ≤ length text.old }
-    ensures { Put text.old at (decimal x) result text.new }
-{
-    if x < 10 {
-        text[at] = digit_of(x);
-        return at + 1;
+    // All that is written.
+    pub fn written(&self) -> &[u8]
+        ensures { result.now ≡ self.now }
+    {
+        &self.text[..self.end]
     }
-    let next = number(text, at, x / 10);
-    text[next] = digit_of(x % 10);
-    next + 1
-}
 
-// A word and a number.
-pub fn said(text: &mut [u8], at: usize, word: &[u8], x: usize) -> usize
-    requires { at + length (said word.now x) ≤ length text.old }
-    ensures { Put text.old at (said word.now x) result text.new }
-{
-    let next = put(text, at, word);
-    number(text, next, x)
-}
+    // The bytes of a word.
+    pub fn put(&mut self, word: &[u8])
+        requires { length self.old + length word.now ≤ ROOM }
+        ensures { self.new ≡ self.old ++ word.now }
+    {
+        let end = self.end + word.len();
+        self.text[self.end..end].copy_from_slice(word);
+        self.end = end;
+    }
 
-// A line of a word and a number.
-pub fn one(text: &mut [u8], at: usize, word: &[u8], x: usize) -> usize
-    requires { at + length (one word.now x) ≤ length text.old }
-    ensures { Put text.old at (one word.now x) result text.new }
-{
-    let next = said(text, at, word, x);
-    put(text, next, b"\n")
-}
+    // A number in decimal, without leading zeros.
+    pub fn number(&mut self, x: usize)
+        requires { length self.old + length (decimal x) ≤ ROOM }
+        ensures { self.new ≡ self.old ++ decimal x }
+    {
+        let mut digits = Buffer::new();
+        self.put(digits.format(x).as_bytes());
+    }
 
-// A line of two words, each with its number.
-pub fn two(text: &mut [u8], at: usize, word: &[u8], x: usize, other: &[u8], y: usize) -> usize
-    requires { at + length (two word.now x other.now y) ≤ length text.old }
-    ensures { Put text.old at (two word.now x other.now y) result text.new }
-{
-    let next = said(text, at, word, x);
-    one(text, next, other, y)
-}
+    // A word and a number.
+    pub fn said(&mut self, word: &[u8], x: usize)
+        requires { length self.old + length (said word.now x) ≤ ROOM }
+        ensures { self.new ≡ self.old ++ said word.now x }
+    {
+        self.put(word);
+        self.number(x);
+    }
 
-// A line of three words, each with its number.
-pub fn three(
-    text: &mut [u8],
-    at: usize,
-    word: &[u8],
-    x: usize,
-    other: &[u8],
-    y: usize,
-    last: &[u8],
-    z: usize,
-) -> usize
-    requires { at + length (three word.now x other.now y last.now z) ≤ length text.old }
-    ensures { Put text.old at (three word.now x other.now y last.now z) result text.new }
-{
-    let next = said(text, at, word, x);
-    two(text, next, other, y, last, z)
+    // A line of a word and a number.
+    #[tactic(auto, unfolding(crate::specs::Lines::one))]
+    pub fn one(&mut self, word: &[u8], x: usize)
+        requires { length self.old + length (one word.now x) ≤ ROOM }
+        ensures { self.new ≡ self.old ++ one word.now x }
+    {
+        self.said(word, x);
+        self.put(b"\n");
+    }
+
+    // A line of two words, each with its number.
+    #[tactic(auto, unfolding(crate::specs::Lines::two))]
+    pub fn two(&mut self, word: &[u8], x: usize, other: &[u8], y: usize)
+        requires { length self.old + length (two word.now x other.now y) ≤ ROOM }
+        ensures { self.new ≡ self.old ++ two word.now x other.now y }
+    {
+        self.said(word, x);
+        self.one(other, y);
+    }
+
+    // A line of three words, each with its number.
+    #[tactic(auto, unfolding(crate::specs::Lines::three))]
+    pub fn three(&mut self, word: &[u8], x: usize, other: &[u8], y: usize, last: &[u8], z: usize)
+        requires { length self.old + length (three word.now x other.now y last.now z) ≤ ROOM }
+        ensures { self.new ≡ self.old ++ three word.now x other.now y last.now z }
+    {
+        self.said(word, x);
+        self.two(other, y, last, z);
+    }
 }

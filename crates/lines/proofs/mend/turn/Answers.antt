@@ -1,17 +1,17 @@
 -- `turn` meets its contract: 0 where the entry is 1, else 1. Assumes nothing.
-use mathlib.Core.Path.{sym, ap}
+use Prim.Native.Nat.{ℕ}
+use mathlib.Core.Path.{◌≡◌, refl, ◌∙◌, ap}
+use mathlib.Core.Bool.{Bool, true, false, not}
 use lib.ListN.{set}
-use borrow.Author.Tests.{eq-eqb, ne_eqb}
+use mir.Val.{bool_byte}
 use Rattle.bits.specs.Choice.{pick}
 use Rattle.lines.specs.Inner.{turned}
 use Rattle.lines.proofs.mend.turn.Goals as goal
 
-pub returns-then-graph-p-eq1 : goal.returns-then-graph-p-eq1
-unfolding turned
-returns-then-graph-p-eq1 c =
-    sym (ap (λ b. set c.args.graph.now c.args.p (pick b 0 1)) (eq-eqb _ 1 c.if-graph-p-eq1.true))
+other : (b : Bool) → bool_byte (not b) ≡ pick b 0 1
+other true = refl
+other false = refl
 
 pub returns : goal.returns
 unfolding turned
-returns c =
-    sym (ap (λ b. set c.args.graph.now c.args.p (pick b 0 1)) (ne_eqb _ 1 c.if-graph-p-eq1.false))
+returns c = ap (λ (v : ℕ). set c.args.graph.now c.args.p v) (c.from.ensures ∙ other _)

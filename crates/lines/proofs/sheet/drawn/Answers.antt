@@ -8,7 +8,7 @@ pub searched-requires : goal.searched-requires
 searched-requires c =
     record {
       checked = checked c.args.n c.args.t c.args.scores.now c.args.graph.now c.args.prices.now c.requires.ready (to_z-of_z w16 c.args.t c.ranges.t) c.to_graph.ensures;
-      in_bounds = c.requires.in_bounds;
+      empty = c.requires.empty;
     }
 
 pub returns : goal.returns

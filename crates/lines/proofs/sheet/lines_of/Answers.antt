@@ -1,41 +1,34 @@
 -- `lines_of` meets its contract: the input's length, then the reader's answer taken apart. Assumes nothing.
-use native.Mathlib.Omega.{arith}
 use lib.ListN.{length-replicate}
 use lib.IntN.{ℤ, pos}
 use mathlib.Core.Path.{refl}
 use mir.Syntax.{w16}
 use mir.ValLaws.{to_z-of_z}
-use Rattle.scores.proofs.OnScale.{on_lift}
-use Rattle.lines.proofs.Bounds.{refusal_short}
+use Rattle.scores.proofs.OnScale.{on_fits}
 use Rattle.lines.proofs.Taking.{long_paged, refused_paged, listed_right, listed_paged}
 use Rattle.lines.proofs.sheet.lines_of.Goals as goal
 
-pub three-requires : goal.three-requires
-three-requires c =
-    let short = refusal_short 11 0 0 (omega arith) (omega arith) (omega arith) in
-    omega (arith, c.requires)
-
 pub returns-then-sheet-gt49032 : goal.returns-then-sheet-gt49032
 returns-then-sheet-gt49032 c =
-    long_paged c.args.sheet.now c.if-sheet-gt49032.true c.three.ensures
+    long_paged c.args.sheet.now c.if-sheet-gt49032.true c.refused.ensures
 
 pub returns-in_default : goal.returns-in_default
 returns-in_default c =
-    refused_paged c.args.sheet.now c.if-sheet-gt49032.false _ (length-replicate {A = ℤ} 8128 (pos 0)) c.read-answer.ensures c.in_default.is c.refused.ensures
+    refused_paged c.args.sheet.now c.if-sheet-gt49032.false _ (length-replicate {A = ℤ} 8128 (pos 0)) c.read-read.ensures c.in_default.is c.refused-in_default.ensures
 
 pub listed-requires : goal.listed-requires
 listed-requires c =
-    let right = listed_right c.args.sheet.now c.if-sheet-gt49032.false _ (length-replicate {A = ℤ} 8128 (pos 0)) c.read-answer.ensures c.in-Sheet.is refl c.read-answer.auto.scores in
-    let t = to_z-of_z w16 c.in-Sheet.t (on_lift c.in-Sheet.t right.1.0).2 in
-    let all = listed_right c.args.sheet.now c.if-sheet-gt49032.false _ (length-replicate {A = ℤ} 8128 (pos 0)) c.read-answer.ensures c.in-Sheet.is t c.read-answer.auto.scores in
+    let right = listed_right c.args.sheet.now c.if-sheet-gt49032.false _ (length-replicate {A = ℤ} 8128 (pos 0)) c.read-read.ensures c.in-Ok.is refl c.read-read.auto.scores in
+    let t = to_z-of_z w16 c.in-Ok.field-0.t (on_fits c.in-Ok.field-0.t right.1.0) in
+    let all = listed_right c.args.sheet.now c.if-sheet-gt49032.false _ (length-replicate {A = ℤ} 8128 (pos 0)) c.read-read.ensures c.in-Ok.is t c.read-read.auto.scores in
     record {
       n_bound = all.0;
       t_value = all.1;
-      in_bounds = c.requires;
+      empty = c.requires;
     }
 
 pub returns : goal.returns
 returns c =
-    let right = listed_right c.args.sheet.now c.if-sheet-gt49032.false _ (length-replicate {A = ℤ} 8128 (pos 0)) c.read-answer.ensures c.in-Sheet.is refl c.read-answer.auto.scores in
-    let t = to_z-of_z w16 c.in-Sheet.t (on_lift c.in-Sheet.t right.1.0).2 in
-    listed_paged c.args.sheet.now c.if-sheet-gt49032.false _ (length-replicate {A = ℤ} 8128 (pos 0)) c.read-answer.ensures c.in-Sheet.is t c.listed.ensures
+    let right = listed_right c.args.sheet.now c.if-sheet-gt49032.false _ (length-replicate {A = ℤ} 8128 (pos 0)) c.read-read.ensures c.in-Ok.is refl c.read-read.auto.scores in
+    let t = to_z-of_z w16 c.in-Ok.field-0.t (on_fits c.in-Ok.field-0.t right.1.0) in
+    listed_paged c.args.sheet.now c.if-sheet-gt49032.false _ (length-replicate {A = ℤ} 8128 (pos 0)) c.read-read.ensures c.in-Ok.is t c.listed.ensures

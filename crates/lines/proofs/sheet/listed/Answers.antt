@@ -1,48 +1,16 @@
 -- `listed` meets its contract: the first scores, and the first entries of the graph and the prices, are lent on. Assumes nothing.
 use Prim.Native.Nat.{ℕ}
-use native.Mathlib.Omega.{arith}
-use mathlib.Core.Path.{sym}
 use lib.ListN.{length-replicate}
-use lib.Seq.{length-take-le}
 use mir.Syntax.{w16}
 use mir.ValLaws.{to_z-of_z}
-use Rattle.lines.proofs.Drawing.{half_told, squares_few, list_ready, list_paged}
+use Rattle.lines.proofs.Drawing.{list_ready, list_paged}
 use Rattle.lines.proofs.sheet.listed.Goals as goal
-
-pub overflow_mul-entries : goal.overflow_mul-entries
-overflow_mul-entries c =
-    let small = squares_few c.args.n c.requires.n_bound.0 in
-    record { fits = omega arith }
-
-pub overflow_sub-pairs : goal.overflow_sub-pairs
-overflow_sub-pairs c =
-    (squares_few c.args.n c.requires.n_bound.0).0
-
-pub slice_bounds-drawn-end : goal.slice_bounds-drawn-end
-slice_bounds-drawn-end c =
-    sym (length-take-le _ _ (omega (arith, half_told c.args.n, c.requires.n_bound.1)))
-
-pub slice_bounds-graph-end : goal.slice_bounds-graph-end
-slice_bounds-graph-end c =
-    (squares_few c.args.n c.requires.n_bound.0).1
-
-pub slice_bounds-drawn-end-2 : goal.slice_bounds-drawn-end-2
-slice_bounds-drawn-end-2 c =
-    sym (length-take-le _ _ (omega (arith, (squares_few c.args.n c.requires.n_bound.0).1, length-replicate {A = ℕ} 16384 0)))
-
-pub slice_bounds-prices-end : goal.slice_bounds-prices-end
-slice_bounds-prices-end c =
-    (squares_few c.args.n c.requires.n_bound.0).1
-
-pub slice_bounds-drawn-end-3 : goal.slice_bounds-drawn-end-3
-slice_bounds-drawn-end-3 c =
-    sym (length-take-le _ _ (omega (arith, (squares_few c.args.n c.requires.n_bound.0).1, length-replicate {A = ℕ} 16384 0)))
 
 pub drawn-requires : goal.drawn-requires
 drawn-requires c =
     record {
       ready = list_ready c.args.n c.args.list.now (to_z-of_z w16 c.args.t c.ranges.t) c.requires.n_bound.0 c.requires.n_bound.1 _ _ c.requires.t_value.0 c.requires.t_value.1 (length-replicate {A = ℕ} 16384 0) (length-replicate {A = ℕ} 16384 0);
-      in_bounds = c.requires.in_bounds;
+      empty = c.requires.empty;
     }
 
 pub returns : goal.returns

@@ -1,30 +1,22 @@
 -- `mended` meets its contract: the first lines, and the forest of the repaired graph behind them. Assumes nothing.
 use mathlib.Core.Path.{◌∙◌, sym, ap, subst}
-use mathlib.Core.List.{◌++◌}
 use lib.ListN.{length}
 use Rattle.graph.specs.Graph.{edge}
 use Rattle.graph.specs.Quad.{Clean}
 use Rattle.repair.specs.Repair.{toggled}
-use Rattle.lines.specs.Lines.{vertices_line, answer_line, change_lines, tree_lines}
+use Rattle.lines.specs.Lines.{tree_lines}
+use Rattle.lines.specs.Inner.{first_lines}
 use Rattle.lines.proofs.Behind.{room_as, put_as, first_room, then_room, both}
 use Rattle.lines.proofs.Mended.{same_edges, mended_fine, mended_long}
 use Rattle.lines.proofs.Drawn.{drawn_long}
 use Rattle.lines.proofs.sheet.mended.Goals as goal
 
-pub edited-next-requires : goal.edited-next-requires
-edited-next-requires c =
+pub edited-requires : goal.edited-requires
+edited-requires c =
     record {
       graph_len = ap length c.requires.n_bound.1 ∙ drawn_long c.args.n (edge c.args.n c.args.graph.now);
       repair_value = c.requires.repair_value.1;
-      repair_in_bounds = first_room c.args.page.now 0 ((vertices_line c.args.n ++ answer_line c.args.cost (length c.args.repair.now) c.args.steps) ++ change_lines c.args.n (edge c.args.n c.args.graph.now) c.args.repair.now) (tree_lines c.args.n (toggled c.args.n (edge c.args.n c.args.graph.now) c.args.repair.now)) c.requires.repair_in_bounds;
-    }
-
-pub mend-requires : goal.mend-requires
-mend-requires c =
-    record {
-      n_bound = c.requires.n_bound.0;
-      graph_value = c.requires.n_bound.1;
-      repair_value = (c.requires.repair_value.0, c.requires.repair_value.1);
+      repair_in_bounds = first_room c.args.page.now (first_lines c.args.n (edge c.args.n c.args.graph.now) c.args.repair.now c.args.cost c.args.steps) (tree_lines c.args.n (toggled c.args.n (edge c.args.n c.args.graph.now) c.args.repair.now)) c.requires.repair_in_bounds;
     }
 
 pub trees-requires : goal.trees-requires
@@ -33,12 +25,12 @@ trees-requires c =
     record {
       n_bound = (c.requires.n_bound.0, mended_long c.args.n (edge c.args.n c.args.graph.now) c.args.repair.now c.requires.n_bound.2 c.mend.ensures, mended_fine c.args.n (edge c.args.n c.args.graph.now) c.args.repair.now c.requires.n_bound.2 c.mend.ensures);
       clean = subst (Clean c.args.n) (sym same) c.requires.repair_value.2;
-      graph_in_bounds = room_as c.edited-next.result (ap (tree_lines c.args.n) same)
-          (then_room c.args.page.now 0 ((vertices_line c.args.n ++ answer_line c.args.cost (length c.args.repair.now) c.args.steps) ++ change_lines c.args.n (edge c.args.n c.args.graph.now) c.args.repair.now) (tree_lines c.args.n (toggled c.args.n (edge c.args.n c.args.graph.now) c.args.repair.now)) c.requires.repair_in_bounds c.edited-next.ensures);
+      graph_in_bounds = room_as c.edited.new.page (ap (tree_lines c.args.n) same)
+          (then_room c.args.page.now (first_lines c.args.n (edge c.args.n c.args.graph.now) c.args.repair.now c.args.cost c.args.steps) (tree_lines c.args.n (toggled c.args.n (edge c.args.n c.args.graph.now) c.args.repair.now)) c.requires.repair_in_bounds c.edited.ensures);
     }
 
 pub returns : goal.returns
 returns c =
     let same = same_edges c.args.n (edge c.args.n c.args.graph.now) c.args.repair.now c.requires.n_bound.2 c.mend.ensures in
-    both c.args.page.now 0 ((vertices_line c.args.n ++ answer_line c.args.cost (length c.args.repair.now) c.args.steps) ++ change_lines c.args.n (edge c.args.n c.args.graph.now) c.args.repair.now) (tree_lines c.args.n (toggled c.args.n (edge c.args.n c.args.graph.now) c.args.repair.now)) c.requires.repair_in_bounds c.edited-next.ensures
-    (put_as (ap (tree_lines c.args.n) same) c.trees.ensures)
+    both c.args.page.now (first_lines c.args.n (edge c.args.n c.args.graph.now) c.args.repair.now c.args.cost c.args.steps) (tree_lines c.args.n (toggled c.args.n (edge c.args.n c.args.graph.now) c.args.repair.now)) c.requires.repair_in_bounds c.edited.ensures
+    (put_as c.edited.new.page (ap (tree_lines c.args.n) same) c.trees.ensures)

@@ -1,30 +1,13 @@
 -- `refused` meets its contract: the line of the number and the place. Assumes nothing.
 use native.Mathlib.Omega.{arith}
-use mathlib.Core.Path.{sym, ap}
-use Rattle.graph.specs.Refusal.{number_of, row_of, column_of}
-use Rattle.scores.specs.Reader.{refusal}
-use Rattle.scores.specs.declared.Reading.{Reading}
-use Rattle.lines.specs.Lines.{refusal_line}
-use Rattle.lines.proofs.Behind.{put_as}
+use Rattle.lines.proofs.Behind.{room_alone}
 use Rattle.lines.proofs.Bounds.{refusal_short}
 use Rattle.lines.proofs.sheet.refused.Goals as goal
 
 pub three-requires : goal.three-requires
 three-requires c =
-    let short = refusal_short c.in-Refused.number c.in-Refused.row c.in-Refused.column (omega arith) (omega arith) (omega arith) in
-    omega (arith, c.requires)
+    room_alone c.requires _ (refusal_short 0 0 0 (omega arith) (omega arith) (omega arith))
 
-pub three-requires-in-Sheet : goal.three-requires-in-Sheet
-three-requires-in-Sheet c =
-    let short = refusal_short 0 0 0 (omega arith) (omega arith) (omega arith) in
-    omega (arith, c.requires)
-
-pub returns-in-Refused : goal.returns-in-Refused
-returns-in-Refused c =
-    let e = c.in-Refused.is in
-    put_as (ap (λ (x : Reading). refusal_line (number_of (refusal x)) (row_of (refusal x)) (column_of (refusal x))) (sym e)) c.three.ensures
-
-pub returns-in-Sheet : goal.returns-in-Sheet
-returns-in-Sheet c =
-    let e = c.in-Sheet.is in
-    put_as (ap (λ (x : Reading). refusal_line (number_of (refusal x)) (row_of (refusal x)) (column_of (refusal x))) (sym e)) c.three-in-Sheet.ensures
+pub three-requires-2 : goal.three-requires-2
+three-requires-2 c =
+    room_alone c.requires _ (refusal_short c.number.result c.place-row.result.0 c.place-row.result.1 (omega arith) (omega arith) (omega arith))
