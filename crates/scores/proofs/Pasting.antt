@@ -7,7 +7,7 @@ use native.Mathlib.Nat.{zero-add}
 use native.Mathlib.Numerals.{add-one}
 use native.Mathlib.Omega.{arith}
 use lib.ListN.{length, get_or, take, drop, set, drop_of_length-le}
-use lib.Seq.{paste, paste-suc, length-paste, take_all, length-take-le}
+use lib.Seq.{paste, paste-suc, take_all, length-take-le}
 
 module _ {A : Type 0} (d s : List A) where
   paste_next : (j : ℕ) (v z : A) → j < length d → j < length s → v ≡ get_or s j z → set (paste d 0 s j) j v ≡ paste d 0 s (j + 1)
@@ -17,18 +17,12 @@ module _ {A : Type 0} (d s : List A) where
       ∙ paste-suc d 0 s j z (rw zero-add hd) hs
       ∙ ap (λ (k : ℕ). paste d 0 s k) (sym (add-one j))
 
-  length_pasted : (j : ℕ) → j ≤ length d → j ≤ length s → length (paste d 0 s j) ≡ length d
-  length_pasted j hd hs = length-paste d 0 s j (rw zero-add hd) hs
-
   pub pasted : (m : ℕ) → length s ≡ m → paste d 0 s m ≡ s ++ drop m d
   pasted m e =
       ap (λ x. x ++ drop (0 + m) d) (take_all m s (omega arith)) ∙ ap (λ (k : ℕ). s ++ drop k d) (zero-add m)
 
 -- a loop that writes s entry by entry from the start of a list with room for it
 module _ {A : Type 0} (old s : List A) {m : ℕ} (sized : length s ≡ m) (room : m ≤ length old) {now : List A} (k : ℕ) (so_far : now ≡ paste old 0 s k) where
-  pub so_long : k ≤ m → length now ≡ length old
-  so_long h = ap length so_far ∙ length_pasted old s k (omega arith) (omega arith)
-
   pub one_more : (z : A) {v : A} → k < m → v ≡ get_or s k z → set now k v ≡ paste old 0 s (k + 1)
   one_more z {v} h e = ap (λ (l : List A). set l k v) so_far ∙ paste_next old s k v z (omega arith) (omega arith) e
 

@@ -1,13 +1,14 @@
 // Scores: the scale, the graph and the prices of scores, and the sheet that carries them.
 #![tactic(auto)]
 
-ghost use Rattle.std.specs.Prelude.{◌≡◌, ◌++◌, ◌≤◌, length, drop};
-ghost use Rattle.scores.specs.Scale.{half};
+ghost use Rattle.std.specs.Prelude.{◌≡◌, ◌++◌, ◌≤◌, length, drop, IfOk};
+ghost use Rattle.graph.specs.Refusal.{refusal};
 ghost use Rattle.scores.specs.Sheet.{sheet_bytes, sheet_length};
 ghost use Rattle.scores.specs.Drawing.{Promise as Drawn};
 ghost use Rattle.scores.specs.Reader.{Promise as Read, shown};
 ghost use Rattle.scores.specs.Writer.{Promise as Wrote, write_fault};
 
+use crate::scale::Scores;
 use graph::Refusal;
 
 mod draw;
@@ -32,12 +33,12 @@ pub fn to_graph(
 ) -> Result<(), Refusal>
     ensures { Drawn n t scores.now graph.old prices.old result graph.new prices.new }
 {
-    scale::count_fault(n, scores)?;
-    scale::scale_fault(n, t, |k| scores[k])?;
+    let scores = Scores::new(n, scores)?;
+    scores.scale_fault(t)?;
     if graph.len() < n * n || prices.len() < n * n {
         return Err(Refusal::NoRoom);
     }
-    draw::draw(n, t, scores, graph, prices);
+    draw::draw(&scores, t, graph, prices);
     Ok(())
 }
 
@@ -63,30 +64,31 @@ pub fn notes(sheet: &[u8]) -> &[u8]
     }
 }
 
-// All that the writer refuses but the room.
-fn write_fault(notes: &[u8], scores: &[i16], n: usize, t: i16) -> Result<(), Refusal>
-    ensures { result ≡ write_fault notes.now scores.now n t }
+// All that the writer refuses but the room, or the scores.
+fn write_fault<'a>(notes: &[u8], scores: &'a [i16], n: usize, t: i16) -> Result<Scores<'a>, Refusal>
+    ensures refused { refusal result ≡ write_fault notes.now scores.now n t }
+    ensures same { IfOk result (λ s. (s.n ≡ n) × (s.list.now ≡ scores.now)) }
+    ensures short { IfOk result (λ s. length notes.now ≤ 32768) }
 {
-    scale::count_fault(n, scores)?;
+    let scores = Scores::new(n, scores)?;
     if 32768 < notes.len() {
         return Err(Refusal::BadSheet);
     }
-    scale::scale_fault(n, t, |k| scores[k])
+    scores.scale_fault(t)?;
+    Ok(scores)
 }
 
 // The sheet's bytes, from the buffer's start.
-fn put_sheet(buf: &mut [u8], notes: &[u8], scores: &[i16], n: usize, t: i16)
-    requires n_bound { n ≤ 128 }
-    requires scores_len { length scores.now ≡ half n }
+fn put_sheet(buf: &mut [u8], notes: &[u8], scores: &Scores, t: i16)
     requires notes_len_bound { length notes.now ≤ 32768 }
-    requires n_in_bounds { sheet_length (length notes.now) n ≤ length buf.old }
-    ensures { buf.new ≡ sheet_bytes notes.now scores.now n t ++ drop (sheet_length (length notes.now) n) buf.old }
+    requires room { sheet_length (length notes.now) scores.now.n ≤ length buf.old }
+    ensures { buf.new ≡ sheet_bytes notes.now scores.now.list.now scores.now.n t ++ drop (sheet_length (length notes.now) scores.now.n) buf.old }
 {
     let p = notes.len();
     sheet::put_notes(buf, notes);
-    sheet::put_scores(&mut buf[p..], scores);
-    let q = p + 2 * scores.len();
-    sheet::put_trailer(&mut buf[q..], Trailer { p, n, t });
+    sheet::put_scores(&mut buf[p..], scores.list);
+    let q = p + 2 * scores.list.len();
+    sheet::put_trailer(&mut buf[q..], Trailer { p, n: scores.n, t });
 }
 
 // Writes a sheet from the buffer's start, and gives its length.
@@ -99,11 +101,11 @@ pub fn write(
 ) -> Result<usize, Refusal>
     ensures { Wrote notes.now scores.now n t buf.old result buf.new }
 {
-    write_fault(notes, scores, n, t)?;
+    let scores = write_fault(notes, scores, n, t)?;
     let size = sheet::length_of(notes.len(), n);
     if buf.len() < size {
         return Err(Refusal::NoRoom);
     }
-    put_sheet(buf, notes, scores, n, t);
+    put_sheet(buf, notes, &scores, t);
     Ok(size)
 }

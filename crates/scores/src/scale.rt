@@ -1,8 +1,8 @@
 // The scale, the score rule, the order of the pairs, and the checks 1, 2 and 5 of scores.
-ghost use Rattle.std.specs.Prelude.{◌≡◌, ◌≢◌, ℕ, List, [], ◌∷◌, ◌≤◌, ◌<◌, length, get_or, ℤ, pos};
-ghost use Rattle.graph.specs.Refusal.{first_of};
+ghost use Rattle.std.specs.Prelude.{◌≡◌, ◌≢◌, ℕ, List, [], ◌∷◌, ◌≤◌, ◌<◌, length, get_or, ℤ, pos, IfOk};
+ghost use Rattle.graph.specs.Refusal.{first_of, refusal};
 ghost use Rattle.graph.specs.Check.{too_many};
-ghost use Rattle.scores.specs.Scale.{on_scale, edge_of, price_of, half, earlier, spot, threshold_off, scores_off};
+ghost use Rattle.scores.specs.Scale.{on_scale, edge_of, price_of, half, earlier, spot, score_of, threshold_off, scores_off};
 ghost use Rattle.scores.specs.Drawing.{wrong_count};
 
 use graph::Refusal;
@@ -46,7 +46,7 @@ fn earlier_of(n: usize, i: usize) -> usize
 }
 
 // The place of the pair {i, j} among the scores.
-pub fn spot_of(n: usize, i: usize, j: usize) -> usize
+fn spot_of(n: usize, i: usize, j: usize) -> usize
     requires n_bound { n ≤ 128 }
     requires i_lt_n { i < n }
     requires j_lt_n { j < n }
@@ -54,19 +54,6 @@ pub fn spot_of(n: usize, i: usize, j: usize) -> usize
     ensures { (result ≡ spot n i j) × (result < half n) }
 {
     earlier_of(n, i.min(j)) + i.abs_diff(j) - 1
-}
-
-// 1 and 2: n, and the number of the scores.
-pub fn count_fault(n: usize, scores: &[i16]) -> Result<(), Refusal>
-    ensures { result ≡ first_of (too_many n ∷ wrong_count scores.now n ∷ []) }
-{
-    if 128 < n {
-        return Err(Refusal::TooManyVertices);
-    }
-    if scores.len() != half_of(n) {
-        return Err(Refusal::WrongLength);
-    }
-    Ok(())
 }
 
 // 5: the threshold, then the first score off the scale, row by row, with its pair: of any list xs that `score` gives the scores of.
@@ -87,4 +74,46 @@ pub fn scale_fault<F: Fn(usize) -> i16>(n: usize, t: i16, score: F) -> Result<()
         }
     }
     Ok(())
+}
+
+// The scores of n vertices, of which there are at most 128: one for each pair.
+#[derive(Clone, Copy)]
+pub struct Scores<'a> {
+    pub n: usize,
+    pub list: &'a [i16],
+    ghost few: { n ≤ 128 },
+    ghost all: { length list.now ≡ half n },
+}
+
+impl<'a> Scores<'a> {
+    // 1 and 2: n, and the number of the scores.
+    pub fn new(n: usize, list: &'a [i16]) -> Result<Scores<'a>, Refusal>
+        ensures refused { refusal result ≡ first_of (too_many n ∷ wrong_count list.now n ∷ []) }
+        ensures same { IfOk result (λ s. (s.n ≡ n) × (s.list.now ≡ list.now)) }
+    {
+        if 128 < n {
+            return Err(Refusal::TooManyVertices);
+        }
+        if list.len() != half_of(n) {
+            return Err(Refusal::WrongLength);
+        }
+        Ok(Scores { n, list })
+    }
+
+    // The score of the pair {i, j}.
+    pub fn at(&self, i: usize, j: usize) -> i16
+        requires i_lt_n { i < self.now.n }
+        requires j_lt_n { j < self.now.n }
+        requires apart { i ≢ j }
+        ensures { result ≡ score_of self.now.n self.now.list.now i j }
+    {
+        self.list[spot_of(self.n, i, j)]
+    }
+
+    // 5: the threshold, then the scores.
+    pub fn scale_fault(&self, t: i16) -> Result<(), Refusal>
+        ensures { result ≡ first_of (threshold_off t ∷ scores_off self.now.n self.now.list.now ∷ []) }
+    {
+        scale_fault(self.n, t, |k| self.list[k])
+    }
 }

@@ -6,5 +6,6 @@ use Rattle.scores.proofs.put_sheet.Goals as goal
 
 pub returns : goal.returns
 returns c =
-    sheet_put c.args.buf.now c.args.notes.now c.args.scores.now c.args.n c.requires.scores_len c.requires.n_in_bounds
-    (to_z-of_z w16 c.args.t c.ranges.t) c.put_notes.ensures c.put_scores.ensures c.put_trailer.ensures
+    let l = c.args.scores.now in
+    sheet_put c.args.buf.now c.args.notes.now l.list.now l.n l.all c.requires.room (to_z-of_z w16 c.args.t c.ranges.t)
+    c.put_notes.ensures c.put_scores.ensures c.put_trailer.ensures

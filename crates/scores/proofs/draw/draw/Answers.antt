@@ -19,19 +19,20 @@ loop-j-preserved c =
     let i : ℕ = c.loop-i.i in
     let r = c.requires in
     let e = c.entry-edge.ensures in (
-      square_more c.args.n _ c.args.graph.now i l.j l.invariant.0 r.n_in_bounds c.loop-i-test.true c.loop-j-test.true e.0,
-      square_more c.args.n _ c.args.prices.now i l.j l.invariant.1 r.n_in_bounds_2 c.loop-i-test.true c.loop-j-test.true e.1,
+      square_more c.args.scores.now.n _ c.args.graph.now i l.j l.invariant.0 r.graph_room c.loop-i-test.true c.loop-j-test.true e.0,
+      square_more c.args.scores.now.n _ c.args.prices.now i l.j l.invariant.1 r.prices_room c.loop-i-test.true c.loop-j-test.true e.1,
     )
 
 pub loop-i-preserved : goal.loop-i-preserved
 loop-i-preserved c =
     let l = c.loop-j in
     let i : ℕ = c.loop-i.i in
-    let end : l.j ≡ c.args.n = omega arith in
-    (square_row c.args.n _ c.args.graph.now i l.j l.invariant.0 end, square_row c.args.n _ c.args.prices.now i l.j l.invariant.1 end)
+    let end : l.j ≡ c.args.scores.now.n = omega arith in
+    (square_row c.args.scores.now.n _ c.args.graph.now i l.j l.invariant.0 end, square_row c.args.scores.now.n _ c.args.prices.now i l.j l.invariant.1 end)
 
 pub returns : goal.returns
 returns c =
     let t = to_z-of_z w16 c.args.t c.ranges.t in
-    let end : c.loop-i.i ≡ c.args.n = omega arith in
-    rw (t, end) at c.loop-i.invariant
+    let end : c.loop-i.i ≡ c.args.scores.now.n = omega arith in
+    let all = rw (t, end) at c.loop-i.invariant in
+    record { graph = all.0; prices = all.1 }

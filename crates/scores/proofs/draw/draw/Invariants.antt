@@ -8,10 +8,10 @@ use Rattle.scores.proofs.draw.draw.Given as goal
 
 abbrev pub invariant-loop-j : goal.invariant-loop-j
 invariant-loop-j l =
-    (l.graph ≡ paste l.fn.graph 0 (square l.n (edge_byte l.n l.t l.scores)) (l.i * l.n + l.j))
-    × (l.prices ≡ paste l.fn.prices 0 (square l.n (price_entry l.n l.t l.scores)) (l.i * l.n + l.j))
+    (l.graph ≡ paste l.fn.graph 0 (square l.scores.n (edge_byte l.scores.n l.t l.scores.list.now)) (l.i * l.scores.n + l.j))
+    × (l.prices ≡ paste l.fn.prices 0 (square l.scores.n (price_entry l.scores.n l.t l.scores.list.now)) (l.i * l.scores.n + l.j))
 
 abbrev pub invariant-loop-i : goal.invariant-loop-i
 invariant-loop-i l =
-    (l.graph ≡ paste l.fn.graph 0 (square l.n (edge_byte l.n l.t l.scores)) (l.i * l.n))
-    × (l.prices ≡ paste l.fn.prices 0 (square l.n (price_entry l.n l.t l.scores)) (l.i * l.n))
+    (l.graph ≡ paste l.fn.graph 0 (square l.scores.n (edge_byte l.scores.n l.t l.scores.list.now)) (l.i * l.scores.n))
+    × (l.prices ≡ paste l.fn.prices 0 (square l.scores.n (price_entry l.scores.n l.t l.scores.list.now)) (l.i * l.scores.n))
