@@ -108,7 +108,8 @@ pub fn visit_of(
     total: u32,
     room: u32,
 ) -> Option<u32>
-    requires ready { Ready cost.now taken.old total room }
+    requires cost_len { length cost.now ≡ 16384 }
+    requires ready { Ready taken.old total room }
     requires a_bound { (a < 128) × (b < 128) × (c < 128) × (d < 128) }
     ensures { Left room (visit cost.now a b c d (held taken.old total)) taken.new result }
 {
