@@ -12,7 +12,7 @@ use Rattle.search.proofs.NodeEnds.{
   six_places,
   end_ways,
 }
-use Rattle.search.proofs.WayEnds.{end_shut, goes_on, path_open, price_fits, fewer_open, ready_node, end_entered}
+use Rattle.search.proofs.WayEnds.{marking, end_shut, goes_on, path_open, fewer_open, ready_node, end_entered}
 use Rattle.search.proofs.WaysEnds.{trying_none, trying_more, trying_end}
 use mathlib.Core.Path.{sym, ◌∙◌}
 use native.Mathlib.Omega.{arith}
@@ -65,40 +65,42 @@ node-returns-else-leaves t c =
 
 pub way-returns-then-not-opens : goal.way-returns-then-not-opens
 way-returns-then-not-opens t c =
-    let m = c.mark-price in
-    end_shut c.args.self.now.prune c.requires.ready c.requires.p_bound.0 c.requires.p_bound.1 m.new.cost m.result m.ensures (sym c.opens.ensures ∙ c.if-not-opens.true)
+    let go = marking c.args.self.now c.args.room.now c.requires.ready c.requires.p_bound c.mark-price.ensures in
+    end_shut go (sym c.opens.ensures ∙ c.if-not-opens.true)
 
 pub way-enter-at-requires : goal.way-enter-at-requires
 way-enter-at-requires t c =
-    let m = c.mark-price in
+    let go = marking c.args.self.now c.args.room.now c.requires.ready c.requires.p_bound c.mark-price.ensures in
+    let on = sym c.opens.ensures ∙ c.if-not-opens.false in
     let safe = c.requires.ready.safe in
     record {
-      words_len = (safe.shape.many, safe.long, path_open c.args.self.now.prune c.requires.ready c.requires.p_bound.0 c.requires.p_bound.1 m.new.cost m.result m.ensures (sym c.opens.ensures ∙ c.if-not-opens.false), safe.few, c.requires.p_bound.0);
+      words_len = (safe.shape.many, safe.long, path_open go on, safe.few, c.requires.p_bound.0);
       place = c.requires.p_bound.1;
     }
 
 pub way-node-after-requires : goal.way-node-after-requires
 way-node-after-requires t c =
-    let m = c.mark-price in
+    let go = marking c.args.self.now c.args.room.now c.requires.ready c.requires.p_bound c.mark-price.ensures in
+    let on = sym c.opens.ensures ∙ c.if-not-opens.false in
     let e = c.enter-at in (
-      omega (arith, fewer_open c.args.self.now.prune c.requires.ready c.requires.p_bound.0 c.requires.p_bound.1 m.new.cost m.result m.ensures (sym c.opens.ensures ∙ c.if-not-opens.false)),
+      omega (arith, fewer_open go on),
       (
-        ready_node c.args.self.now.prune c.requires.ready c.requires.p_bound.0 c.requires.p_bound.1 m.new.cost m.result m.ensures (sym c.opens.ensures ∙ c.if-not-opens.false) c.paid.result e.new.words e.new.path c.paid.ensures e.ensures.toggled e.auto.path,
-        goes_on c.args.self.now.prune c.requires.ready c.requires.p_bound.0 c.requires.p_bound.1 m.new.cost m.result m.ensures (sym c.opens.ensures ∙ c.if-not-opens.false),
+        ready_node go on c.paid.result e.new.words e.new.path c.paid.ensures e.ensures.toggled e.auto.path,
+        goes_on go on,
       ),
     )
 
 pub way-leave-requires : goal.way-leave-requires
 way-leave-requires t c =
-    let m = c.mark-price in
+    let go = marking c.args.self.now c.args.room.now c.requires.ready c.requires.p_bound c.mark-price.ensures in
+    let on = sym c.opens.ensures ∙ c.if-not-opens.false in
     let safe = c.requires.ready.safe in
     let e = c.enter-at in
-    let d = c.node-after in
     record {
       words_len = (
         omega arith,
         omega arith,
-        path_open c.args.self.now.prune c.requires.ready c.requires.p_bound.0 c.requires.p_bound.1 m.new.cost m.result m.ensures (sym c.opens.ensures ∙ c.if-not-opens.false),
+        path_open go on,
         safe.few,
         c.requires.p_bound.0,
       );
@@ -108,12 +110,13 @@ way-leave-requires t c =
 
 pub way-returns : goal.way-returns
 way-returns t c =
-    let m = c.mark-price in
+    let go = marking c.args.self.now c.args.room.now c.requires.ready c.requires.p_bound c.mark-price.ensures in
+    let on = sym c.opens.ensures ∙ c.if-not-opens.false in
     let e = c.enter-at in
     let due = c.paid in
     let d = c.node-after in
     let l = c.leave in
-    end_entered c.args.self.now.prune c.requires.ready c.requires.p_bound.0 c.requires.p_bound.1 m.new.cost m.result m.ensures (sym c.opens.ensures ∙ c.if-not-opens.false)
+    end_entered go on
     e.new.words e.new.path d.new.room.words d.new.room.cost d.new.room.path d.new.room.kept l.new.words l.new.path
     e.result due.result d.result due.ensures e.ensures.toggled e.ensures.put d.ensures l.ensures.toggled l.ensures.closed
 
