@@ -87,7 +87,6 @@ pub fn shut(taken: &[u64], a: usize, b: usize, c: usize) -> bool
 }
 
 // Is one of the six pairs used?
-#[tactic(auto, unfolding(crate::specs::Pass::touched))]
 fn touched_of(taken: &[u64], a: usize, b: usize, c: usize, d: usize) -> bool
     requires { (length taken.now ≡ 256) × (a < 128) × (b < 128) × (c < 128) × (d < 128) }
     ensures { result ≡ touched a b c d (word_edge taken.now) }
