@@ -2,6 +2,7 @@
 ghost use Rattle.std.specs.Prelude.{◌≡◌, length};
 
 // The words of the graph as it is at the present node, the table of costs, the path to the node, and the repair that is kept.
+// Fixed memory, no heap: the lists are document 01's two, of 8,128 pair numbers each.
 #[derive(Drop)]
 pub struct Room {
     pub words: [u64; 256],
