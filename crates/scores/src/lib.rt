@@ -23,7 +23,13 @@ pub struct Trailer {
 }
 
 // The graph and the prices of the scores of n vertices under the threshold t.
-pub fn to_graph(n: usize, t: i16, scores: &[i16], graph: &mut [u8], prices: &mut [u16]) -> Result<(), Refusal>
+pub fn to_graph(
+    n: usize,
+    t: i16,
+    scores: &[i16],
+    graph: &mut [u8],
+    prices: &mut [u16],
+) -> Result<(), Refusal>
     ensures { Drawn n t scores.now graph.old prices.old result graph.new prices.new }
 {
     scale::count_fault(n, scores)?;
@@ -84,7 +90,13 @@ fn put_sheet(buf: &mut [u8], notes: &[u8], scores: &[i16], n: usize, t: i16)
 }
 
 // Writes a sheet from the buffer's start, and gives its length.
-pub fn write(notes: &[u8], scores: &[i16], n: usize, t: i16, buf: &mut [u8]) -> Result<usize, Refusal>
+pub fn write(
+    notes: &[u8],
+    scores: &[i16],
+    n: usize,
+    t: i16,
+    buf: &mut [u8],
+) -> Result<usize, Refusal>
     ensures { Wrote notes.now scores.now n t buf.old result buf.new }
 {
     write_fault(notes, scores, n, t)?;

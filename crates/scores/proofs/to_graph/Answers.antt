@@ -42,10 +42,10 @@ returns-then-graph-n c =
     let right = c.in_ok-count_fault.ensures in
     let on = rw (to_z-of_z w16 c.args.t c.ranges.t) at (c.in_ok-scale_fault.ensures c.args.scores.now (λ k s few e. search rules)) in
     elim c.then-graph-n.branch [
-      then-graph-n-via-then-graph-n w ↦
-        graph_short c.args.n c.args.t c.args.scores.now c.args.graph.now c.args.prices.now right on w.if-graph-n.true
-    | then-graph-n-via-else-graph-n+then-prices-n w ↦
-        prices_short c.args.n c.args.t c.args.scores.now c.args.graph.now c.args.prices.now right on w.if-graph-n.false w.if-prices-n.true
+      | then-graph-n-via-then-graph-n w ↦
+          graph_short c.args.n c.args.t c.args.scores.now c.args.graph.now c.args.prices.now right on w.if-graph-n.true
+      | then-graph-n-via-else-graph-n+then-prices-n w ↦
+          prices_short c.args.n c.args.t c.args.scores.now c.args.graph.now c.args.prices.now right on w.if-graph-n.false w.if-prices-n.true
     ]
 
 pub draw-requires-clause-n_bound : goal.draw-requires-clause-n_bound

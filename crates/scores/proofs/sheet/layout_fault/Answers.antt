@@ -27,9 +27,9 @@ returns-then-trailer-gt32768-clause-refused c =
     let same = sym (ap (λ (x : Trailer). wrong_layout c.args.sheet.now x.p x.n) e) in
     layout_off c.args.sheet.now c.if-sheet-lt8.false (omega arith)
     (same ∙ (elim c.then-trailer-gt32768.branch [
-      then-trailer-gt32768-via-then-trailer-gt32768 w ↦ too_much c.args.sheet.now h.p h.n w.if-trailer-gt32768.true
-    | then-trailer-gt32768-via-else-trailer-gt32768+then-sheet-length_of w ↦
-        other_length c.args.sheet.now h.p h.n (λ l. w.if-sheet-length_of.true (l ∙ sym w.length_of.ensures))
+      | then-trailer-gt32768-via-then-trailer-gt32768 w ↦ too_much c.args.sheet.now h.p h.n w.if-trailer-gt32768.true
+      | then-trailer-gt32768-via-else-trailer-gt32768+then-sheet-length_of w ↦
+          other_length c.args.sheet.now h.p h.n (λ l. w.if-sheet-length_of.true (l ∙ sym w.length_of.ensures))
     ]))
 
 pub returns-clause-refused : goal.returns-clause-refused

@@ -32,7 +32,7 @@ returns-in_err-scale_fault-clause-refused c =
     let h = c.in_ok-trailer.ensures in
     let t = to_z-of_z w16 c.in_ok-trailer.trailer.t (search rules) in
     let told = c.in_err-scale_fault.ensures (scores_of c.args.sheet.now) (λ k s few q.
-      score_listed c.args.sheet.now h.trailer few (search rules)) in
+    score_listed c.args.sheet.now h.trailer few (search rules)) in
     ap refusal back ∙ scale_told c.args.sheet.now h.trailer h.refused t told
 
 pub returns-clause-refused : goal.returns-clause-refused
@@ -40,5 +40,5 @@ returns-clause-refused c =
     let h = c.in_ok-trailer.ensures in
     let t = to_z-of_z w16 c.in_ok-trailer.trailer.t (search rules) in
     let told = c.in_ok-scale_fault.ensures (scores_of c.args.sheet.now) (λ k s few q.
-      score_listed c.args.sheet.now h.trailer few (search rules)) in
+    score_listed c.args.sheet.now h.trailer few (search rules)) in
     scale_told c.args.sheet.now h.trailer h.refused t told
