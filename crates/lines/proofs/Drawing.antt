@@ -11,11 +11,13 @@ use lib.Seq.{length-take-le}
 use lib.IntN.{ℤ}
 use borrow.Author.Tests.{le-ltb, eq-eqb}
 use Rattle.bits.proofs.Truth.{not_off}
-use Rattle.std.specs.Prelude.{Ok}
+use Rattle.std.specs.Prelude.{Ok, Err}
+use Rattle.graph.specs.declared.Refusal.{Refusal}
 use Rattle.graph.specs.declared.Refusal.TheVariants.{TooManyVertices, WrongLength, OffScale, NoRoom}
 use Rattle.graph.specs.Refusal.{Finding, first_of}
 use Rattle.graph.specs.Check.{too_many, too_short}
 use Rattle.graph.specs.Graph.{edge}
+use Rattle.graph.proofs.Leading.{fault_not_fine}
 use Rattle.graph.proofs.Refusals.{first_of_next, first_of_single, row_passes}
 use Rattle.repair.specs.Pair.{is_pair}
 use Rattle.repair.specs.Repair.{toll_of}
@@ -39,10 +41,16 @@ module _ (n : ℕ) (t : ℤ) (scores : List ℤ) (g ps : List ℕ) (ready : Read
 
   -- the code's threshold is t read back from its bits
   module _ {u : ℤ} {r : Finding} {g' ps' : List ℕ} (same : u ≡ t) (told : Promise n u scores g ps r g' ps') where
+    passes : r ≡ Ok tt
+    passes = (subst (λ (x : ℤ). Promise n x scores g ps r g' ps') same told).refused ∙ no_fault
+
+    pub not_refused : {why : Refusal} → r ≡ Err why → ⊥
+    not_refused e = fault_not_fine (sym e ∙ passes)
+
     fine : Promise n t scores g ps (Ok tt) g' ps'
     fine =
-        let told' : Promise n t scores g ps r g' ps' = subst (λ (x : ℤ). Promise n x scores g ps r g' ps') same told in
-        subst (λ (x : Finding). Promise n t scores g ps x g' ps') (told'.refused ∙ no_fault) told'
+        subst (λ (x : Finding). Promise n t scores g ps x g' ps') passes
+        (subst (λ (x : ℤ). Promise n x scores g ps r g' ps') same told)
 
     pub graph_drawn : g' ≡ square n (edge_byte n t scores)
     graph_drawn =

@@ -1,5 +1,5 @@
 -- The turns of the loops that write one piece behind the other: where they begin, and one piece more. Assumes nothing.
-use mathlib.Core.Path.{◌≡◌, sym, ◌∙◌, ap}
+use mathlib.Core.Path.{◌≡◌, sym, ap}
 use mathlib.Core.List.{List, ◌++◌, append-nil}
 use Prim.Native.Nat.{ℕ, ◌+◌, ◌≤◌, ◌<◌}
 use native.Mathlib.Omega.{arith}
@@ -22,8 +22,3 @@ module _ (old : List ℕ) (f : ℕ → List ℕ) (m : ℕ) (room : length old + 
 
     pub each_next : {after : List ℕ} → after ≡ now ++ f k → after ≡ old ++ each (k + 1) f
     each_next more = put_as old (each_more f k) (both old (each k f) (f k) (part_room k h) put more)
-
-  pub each_end : (k : ℕ) {now : List ℕ} → k ≤ m → m ≤ k → now ≡ old ++ each k f → now ≡ old ++ each m f
-  each_end k l h put =
-      let e : k ≡ m = omega arith in
-      put ∙ ap (λ (x : ℕ). old ++ each x f) e

@@ -31,6 +31,7 @@ fn trees(page: &mut Page, n: usize, graph: &[u8])
             page::parents(page, &list[..n]);
             page.one(b"groups ", groups);
         }
+        // The graph passes the checks and is clean.
         Ok(Spoiled(_)) => unreachable!(),
         Err(_) => unreachable!(),
     }
@@ -84,6 +85,7 @@ fn searched(page: &mut Page, n: usize, graph: &mut [u8], prices: &[u16])
             );
         }
         Ok(Stopped { steps }) => page.one(b"answer 9 steps ", steps as usize),
+        // Toggling every edge is a repair within the budget.
         Ok(Nothing { .. }) => unreachable!(),
         Err(_) => unreachable!(),
     }
@@ -95,7 +97,9 @@ fn drawn(page: &mut Page, n: usize, t: i16, scores: &[i16], graph: &mut [u8], pr
     requires empty { page.old ≡ [] }
     ensures { Searched n (edge n (square n (edge_byte n t scores.now))) (toll_of (square n (price_entry n t scores.now))) page.new }
 {
-    let _ = scores::to_graph(n, t, scores, graph, prices);
+    let Ok(()) = scores::to_graph(n, t, scores, graph, prices) else {
+        unreachable!();
+    };
     searched(page, n, graph, prices);
 }
 
