@@ -24,9 +24,11 @@ pub fn draw(scores: &Scores, t: i16, graph: &mut [u8], prices: &mut [u16])
     requires graph_room { scores.now.n * scores.now.n ≤ length graph.old }
     requires prices_room { scores.now.n * scores.now.n ≤ length prices.old }
     ensures graph { graph.new
-        ≡ paste graph.old 0 (square scores.now.n (edge_byte scores.now.n t scores.now.list.now)) (scores.now.n * scores.now.n) }
+        ≡ paste graph.old 0 (square scores.now.n (edge_byte scores.now.n t scores.now.list.now))
+        (scores.now.n * scores.now.n) }
     ensures prices { prices.new
-        ≡ paste prices.old 0 (square scores.now.n (price_entry scores.now.n t scores.now.list.now)) (scores.now.n * scores.now.n) }
+        ≡ paste prices.old 0 (square scores.now.n (price_entry scores.now.n t scores.now.list.now))
+        (scores.now.n * scores.now.n) }
 {
     let n = scores.n;
     for i in 0..n {
