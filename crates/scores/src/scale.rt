@@ -58,7 +58,7 @@ fn spot_of(n: usize, i: usize, j: usize) -> usize
 }
 
 // 5: the threshold, then the first score off the scale, row by row, with its pair. The scores are those of any list xs whose
-// k-th score `score` gives at k.
+// k-th score `score` gives at k. The pairs are half of what `graph::check::row_by_row` goes over, so the loops stand here.
 pub fn scale_fault<F: Fn(usize) -> i16>(n: usize, t: i16, score: F) -> Result<(), Refusal>
     requires n_bound { n ≤ 128 }
     requires callable { (k : ℕ) → k < half n → F.pre score k }
