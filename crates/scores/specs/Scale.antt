@@ -1,5 +1,6 @@
 -- The scale, the score rule and the order of the pairs ("Graphs, prices, scores"). Assumes nothing.
-use Rattle.std.specs.Prelude.{ℕ, zero, suc, ◌+◌, ◌*◌, ◌-◌, ◌/◌, Bool, not, ◌&&◌, List, [], ◌∷◌, get_or, ltb, eqb, ℤ, pos, negsuc, nat_abs, ◌-ℤ◌, Ok, Err}
+use Rattle.std.specs.Prelude.{ℕ, zero, suc, ◌+◌, ◌*◌, ◌-◌, ◌/◌, Bool, not, ◌&&◌, ltb, eqb, ℤ, pos, negsuc, nat_abs, ◌-ℤ◌}
+use Rattle.std.specs.Prelude.{List, [], ◌∷◌, get_or, Ok, Err}
 use Rattle.std.specs.Int.Signed.{lt_z, le_z}
 use Rattle.bits.specs.Choice.{pick}
 use Rattle.graph.specs.declared.Refusal.TheVariants.{OffScale}

@@ -9,7 +9,8 @@ use crate::scale::{self, Scores};
 fn entry(scores: &Scores, t: i16, i: usize, j: usize) -> (u8, u16)
     requires i_lt_n { i < scores.now.n }
     requires j_lt_n { j < scores.now.n }
-    ensures { (result.0 ≡ edge_byte scores.now.n t scores.now.list.now i j) × (result.1 ≡ price_entry scores.now.n t scores.now.list.now i j) }
+    ensures edge { result.0 ≡ edge_byte scores.now.n t scores.now.list.now i j }
+    ensures price { result.1 ≡ price_entry scores.now.n t scores.now.list.now i j }
 {
     if i == j {
         return (0, 0);
@@ -22,8 +23,12 @@ fn entry(scores: &Scores, t: i16, i: usize, j: usize) -> (u8, u16)
 pub fn draw(scores: &Scores, t: i16, graph: &mut [u8], prices: &mut [u16])
     requires graph_room { scores.now.n * scores.now.n ≤ length graph.old }
     requires prices_room { scores.now.n * scores.now.n ≤ length prices.old }
-    ensures graph { graph.new ≡ paste graph.old 0 (square scores.now.n (edge_byte scores.now.n t scores.now.list.now)) (scores.now.n * scores.now.n) }
-    ensures prices { prices.new ≡ paste prices.old 0 (square scores.now.n (price_entry scores.now.n t scores.now.list.now)) (scores.now.n * scores.now.n) }
+    ensures graph { graph.new
+        ≡ paste graph.old 0 (square scores.now.n (edge_byte scores.now.n t scores.now.list.now))
+        (scores.now.n * scores.now.n) }
+    ensures prices { prices.new
+        ≡ paste prices.old 0 (square scores.now.n (price_entry scores.now.n t scores.now.list.now))
+        (scores.now.n * scores.now.n) }
 {
     let n = scores.n;
     for i in 0..n {

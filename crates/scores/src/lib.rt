@@ -46,7 +46,7 @@ pub fn to_graph(
 pub fn read(sheet: &[u8], scores: &mut [i16]) -> Result<Trailer, Refusal>
     ensures { Read sheet.now scores.old result scores.new }
 {
-    let trailer = sheet::sheet_fault(sheet)?;
+    let trailer = sheet::checked(sheet)?;
     if scores.len() < scale::half_of(trailer.n) {
         return Err(Refusal::NoRoom);
     }
@@ -58,14 +58,14 @@ pub fn read(sheet: &[u8], scores: &mut [i16]) -> Result<Trailer, Refusal>
 pub fn notes(sheet: &[u8]) -> &[u8]
     ensures { result.now ≡ shown sheet.now }
 {
-    match sheet::sheet_fault(sheet) {
+    match sheet::checked(sheet) {
         Ok(trailer) => &sheet[..trailer.p],
         Err(_) => &sheet[..0],
     }
 }
 
-// All that the writer refuses but the room, or the scores.
-fn write_fault<'a>(notes: &[u8], scores: &'a [i16], n: usize, t: i16) -> Result<Scores<'a>, Refusal>
+// All that the writer refuses but the room; else the scores.
+fn writable<'a>(notes: &[u8], scores: &'a [i16], n: usize, t: i16) -> Result<Scores<'a>, Refusal>
     ensures refused { refusal result ≡ write_fault notes.now scores.now n t }
     ensures same { IfOk result (λ s. (s.n ≡ n) × (s.list.now ≡ scores.now)) }
     ensures short { IfOk result (λ s. length notes.now ≤ 32768) }
@@ -82,7 +82,8 @@ fn write_fault<'a>(notes: &[u8], scores: &'a [i16], n: usize, t: i16) -> Result<
 fn put_sheet(buf: &mut [u8], notes: &[u8], scores: &Scores, t: i16)
     requires notes_len_bound { length notes.now ≤ 32768 }
     requires room { sheet_length (length notes.now) scores.now.n ≤ length buf.old }
-    ensures { buf.new ≡ sheet_bytes notes.now scores.now.list.now scores.now.n t ++ drop (sheet_length (length notes.now) scores.now.n) buf.old }
+    ensures { buf.new ≡ sheet_bytes notes.now scores.now.list.now scores.now.n t
+        ++ drop (sheet_length (length notes.now) scores.now.n) buf.old }
 {
     let p = notes.len();
     sheet::put_notes(buf, notes);
@@ -101,7 +102,7 @@ pub fn write(
 ) -> Result<usize, Refusal>
     ensures { Wrote notes.now scores.now n t buf.old result buf.new }
 {
-    let scores = write_fault(notes, scores, n, t)?;
+    let scores = writable(notes, scores, n, t)?;
     let size = sheet::length_of(notes.len(), n);
     if buf.len() < size {
         return Err(Refusal::NoRoom);

@@ -28,7 +28,8 @@ pub fn price(s: i16, t: i16) -> u16
     s.abs_diff(t).max(1)
 }
 
-// n(n-1)/2, the number of pairs.
+// n(n-1)/2, the number of pairs. Here and below "n ≤ 128" is a clause and not a type's invariant: a sheet's n is checked before
+// there are scores for `Scores`, and a type for n alone would be no plainer.
 pub fn half_of(n: usize) -> usize
     requires { n ≤ 128 }
     ensures { result ≡ half n }
@@ -56,7 +57,8 @@ fn spot_of(n: usize, i: usize, j: usize) -> usize
     earlier_of(n, i.min(j)) + i.abs_diff(j) - 1
 }
 
-// 5: the threshold, then the first score off the scale, row by row, with its pair: of any list xs that `score` gives the scores of.
+// 5: the threshold, then the first score off the scale, row by row, with its pair. The scores are those of any list xs whose
+// k-th score `score` gives at k. The pairs are half of what `graph::check::row_by_row` goes over, so the loops stand here.
 pub fn scale_fault<F: Fn(usize) -> i16>(n: usize, t: i16, score: F) -> Result<(), Refusal>
     requires n_bound { n ≤ 128 }
     requires callable { (k : ℕ) → k < half n → F.pre score k }

@@ -108,8 +108,8 @@ fn trailer_of(sheet: &[u8]) -> Trailer
     }
 }
 
-// 11, 1 and 11: the trailer, n, and p and the length.
-fn layout_fault(sheet: &[u8]) -> Result<Trailer, Refusal>
+// 11, 1 and 11: the trailer, n, and p and the length; else the trailer.
+fn laid_out(sheet: &[u8]) -> Result<Trailer, Refusal>
     ensures refused { refusal result ≡ layout_fault sheet.now }
     ensures trailer { IfOk result (λ h. h ≡ trailer_of sheet.now) }
 {
@@ -126,12 +126,12 @@ fn layout_fault(sheet: &[u8]) -> Result<Trailer, Refusal>
     Ok(trailer)
 }
 
-// All that a sheet is refused for but room, or its trailer.
-pub fn sheet_fault(sheet: &[u8]) -> Result<Trailer, Refusal>
+// All that a sheet is refused for but room; else its trailer.
+pub fn checked(sheet: &[u8]) -> Result<Trailer, Refusal>
     ensures refused { refusal result ≡ sheet_fault sheet.now }
     ensures trailer { IfOk result (λ h. h ≡ trailer_of sheet.now) }
 {
-    let trailer = layout_fault(sheet)?;
+    let trailer = laid_out(sheet)?;
     scale::scale_fault(trailer.n, trailer.t, |k| score_at(sheet, trailer.p, k))?;
     Ok(trailer)
 }

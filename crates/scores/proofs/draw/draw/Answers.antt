@@ -19,8 +19,8 @@ loop-j-preserved c =
     let i : ℕ = c.loop-i.i in
     let r = c.requires in
     let e = c.entry-edge.ensures in (
-      square_more c.args.scores.now.n _ c.args.graph.now i l.j l.invariant.0 r.graph_room c.loop-i-test.true c.loop-j-test.true e.0,
-      square_more c.args.scores.now.n _ c.args.prices.now i l.j l.invariant.1 r.prices_room c.loop-i-test.true c.loop-j-test.true e.1,
+      square_more c.args.scores.now.n _ c.args.graph.now i l.j l.invariant.0 r.graph_room c.loop-i-test.true c.loop-j-test.true e.edge,
+      square_more c.args.scores.now.n _ c.args.prices.now i l.j l.invariant.1 r.prices_room c.loop-i-test.true c.loop-j-test.true e.price,
     )
 
 pub loop-i-preserved : goal.loop-i-preserved

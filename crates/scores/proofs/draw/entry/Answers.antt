@@ -10,13 +10,14 @@ pub returns-then-i-j : goal.returns-then-i-j
 returns-then-i-j c =
     let l = c.args.scores.now in
     let e = c.if-i-j.true in
-    (edge_diagonal l.n c.args.t l.list.now _ _ e, price_diagonal l.n c.args.t l.list.now _ _ e)
+    record { edge = edge_diagonal l.n c.args.t l.list.now _ _ e; price = price_diagonal l.n c.args.t l.list.now _ _ e }
 
 pub returns : goal.returns
 returns c =
     let l = c.args.scores.now in
     let t = to_z-of_z w16 c.args.t c.ranges.t in
-    let s = back c.at-s.result c.at-s.type_inv ∙ c.at-s.ensures in (
-      c.from.ensures ∙ edge_apart l.n c.args.t l.list.now _ _ c.if-i-j.false _ _ s t _ (sym c.is_edge.ensures),
-      c.price.ensures ∙ price_apart l.n c.args.t l.list.now _ _ c.if-i-j.false _ _ s t,
-    )
+    let s = back c.at-s.result c.at-s.type_inv ∙ c.at-s.ensures in
+    record {
+      edge = c.from.ensures ∙ edge_apart l.n c.args.t l.list.now _ _ c.if-i-j.false _ _ s t _ (sym c.is_edge.ensures);
+      price = c.price.ensures ∙ price_apart l.n c.args.t l.list.now _ _ c.if-i-j.false _ _ s t;
+    }

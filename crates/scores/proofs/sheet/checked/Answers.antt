@@ -1,4 +1,4 @@
--- `sheet_fault` meets its contract: the layout, then the scale. Assumes nothing.
+-- `checked` meets its contract: the layout, then the scale. Assumes nothing.
 use Rattle.std.proofs.Common.{rules, ◌≡◌, Err}
 use mathlib.Core.Path.{◌∙◌, ap}
 use mir.Syntax.{w16}
@@ -8,7 +8,7 @@ use Rattle.graph.specs.Refusal.{refusal}
 use Rattle.scores.proofs.Sheets.{laid, layout_refused, score_inside, score_listed, scale_told}
 use Rattle.scores.specs.Sheet.{scores_of}
 use Rattle.scores.specs.declared.Trailer.{Trailer}
-use Rattle.scores.proofs.sheet.sheet_fault.Goals as goal
+use Rattle.scores.proofs.sheet.checked.Goals as goal
 
 pub returns-in_err-trailer-clause-refused : goal.returns-in_err-trailer-clause-refused
 returns-in_err-trailer-clause-refused c =

@@ -1,11 +1,11 @@
--- `layout_fault` meets its contract: the checks 11, 1 and 11 in turn. Assumes nothing.
+-- `laid_out` meets its contract: the checks 11, 1 and 11 in turn. Assumes nothing.
 use native.Mathlib.Omega.{arith}
 use mathlib.Core.Path.{sym, ◌∙◌, ap}
 use Rattle.scores.proofs.Sheets.{no_trailer, size_off, layout_off, laid_out, too_much, other_length, right_length}
 use Rattle.scores.specs.Reader.{wrong_layout}
 use Rattle.scores.specs.declared.Trailer.{Trailer}
-use Rattle.scores.proofs.sheet.layout_fault.Goals as goal
-use Rattle.scores.proofs.sheet.layout_fault.Goals.{
+use Rattle.scores.proofs.sheet.laid_out.Goals as goal
+use Rattle.scores.proofs.sheet.laid_out.Goals.{
   then-trailer-gt32768-via-then-trailer-gt32768,
   then-trailer-gt32768-via-else-trailer-gt32768+then-sheet-length_of,
 }

@@ -1,11 +1,11 @@
--- `write_fault` meets its contract: n and the scores' number, the notes, the scale. Assumes nothing.
+-- `writable` meets its contract: n and the scores' number, the notes, the scale. Assumes nothing.
 use Rattle.std.proofs.Common.{◌≡◌, Err, rules}
 use mathlib.Core.Path.{◌∙◌, ap}
 use mir.Syntax.{w16}
 use mir.ValLaws.{to_z-of_z}
 use Rattle.graph.specs.Refusal.{refusal}
 use Rattle.scores.proofs.Writings.{count_first, notes_long, scale_decides}
-use Rattle.scores.proofs.write_fault.Goals as goal
+use Rattle.scores.proofs.writable.Goals as goal
 
 pub returns-in_err-scores-clause-refused : goal.returns-in_err-scores-clause-refused
 returns-in_err-scores-clause-refused c =
