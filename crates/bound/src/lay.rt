@@ -6,22 +6,13 @@ ghost use Rattle.repair.specs.Packing.{hopeless};
 ghost use Rattle.bound.specs.Pass.{cost_of, laid, lower, laid_all, fee, touched, visit, held};
 ghost use Rattle.bound.specs.Leaves.{Marked, Laid, Ready, Left};
 
-// An entry of the table as a wider number.
-fn wide(x: u16) -> u32
-    ensures { (result ≡ x) × (result < 65536) }
-{
-    u32::from(x)
-}
-
 // What the pair of x and y costs.
+#[tactic(auto, unfolding(crate::specs::Pass::cost_of))]
 fn cost_of(cost: &[u16], x: usize, y: usize) -> u32
     requires { (length cost.now ≡ 16384) × (x < 128) × (y < 128) }
     ensures { (result ≡ cost_of cost.now x y) × (result < 65536) }
 {
-    if x < y {
-        return wide(cost[x * 128 + y]);
-    }
-    wide(cost[y * 128 + x])
+    u32::from(cost[x.min(y) * 128 + x.max(y)])
 }
 
 // The entry at row x, column y is used.
@@ -55,10 +46,7 @@ fn lay(cost: &[u16], taken: &mut [u64], x: usize, y: usize, low: u32) -> u32
         return low;
     }
     mark(taken, x, y);
-    if p < low {
-        return p;
-    }
-    low
+    p.min(low)
 }
 
 // All six pairs, and the lowest cost.

@@ -35,7 +35,6 @@ fn price_entry(n: usize, prices: &[u16], i: usize, j: usize) -> Result<(), Refus
 }
 
 // The first fault of the prices, row by row.
-#[tactic(auto, unfolding(graph::specs::Price::price_entries))]
 pub fn price_entries(n: usize, prices: &[u16]) -> Result<(), Refusal>
     requires n_bound { n ≤ 128 }
     requires prices_len { length prices.now ≡ n * n }
