@@ -42,6 +42,7 @@ fn lay(cost: &[u16], taken: &mut [u64], x: usize, y: usize, low: u32) -> u32
         (lower cost.now x y low) taken.new result }
 {
     let p = cost_of(cost, x, y);
+    // The table (`prices::costs`) keeps document 01's 65,535 for a pair that is not free.
     if 65535 <= p {
         return low;
     }
@@ -56,7 +57,7 @@ fn lay_all(cost: &[u16], taken: &mut [u64], a: usize, b: usize, c: usize, d: usi
     ensures { Laid (laid_all cost.now a b c d (word_edge taken.old))
         (fee cost.now a b c d) taken.new result }
 {
-    let mut low = 4294967295;
+    let mut low = 4294967295; // document 01's bound where no pair is free
     for (x, y) in [(c, d), (b, d), (b, c), (a, d), (a, c), (a, b)] {
         low = lay(cost, taken, x, y, low);
     }

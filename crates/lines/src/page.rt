@@ -33,7 +33,7 @@ pub fn changes(page: &mut Page, n: usize, graph: &[u8], repair: &[u16])
     }
 }
 
-// `parent V P`, or `parent V -` where there is none.
+// `parent V P`, or `parent V -` where there is none, which document 01 writes as 65,535 in the list.
 #[tactic(auto, unfolding(crate::specs::Lines::parent_line))]
 fn parent(page: &mut Page, v: usize, p: u16)
     requires { length page.old + length (parent_line v p) ≤ ROOM }

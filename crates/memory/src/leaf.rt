@@ -22,7 +22,8 @@ pub fn entered(t: Tally) -> Tally
     }
 }
 
-// Is the pair entered: the search goes on, it is free, and the price is at most the present limit?
+// Is the pair entered: the search goes on, it is free (fixed and marked pairs stand at 65,535 in the table), and the price is at
+// most the present limit?
 pub fn opens(price: u16, spent: u32, most: u64, t: Tally) -> bool
     requires { spent ≤ budget }
     ensures { result ≡ (leb t.steps most && (ltb price 65535 && leb (spent + price) t.limit)) }

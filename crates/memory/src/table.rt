@@ -37,7 +37,8 @@ pub fn number(n: usize, p: usize) -> u16
     (p / 128 * n + p % 128) as u16
 }
 
-// The pair at p is marked; what it cost is returned.
+// The pair at p is marked, by document 01's 65,535 of a fixed pair, for which every entry of the table has room; what it cost
+// is returned.
 pub fn mark(cost: &mut [u16], p: usize) -> u16
     requires { p < length cost.old }
     ensures { Marked p cost.old cost.new result }
