@@ -5,7 +5,6 @@ pub mod Six
 pub mod Tallied
 pub mod Fits
 pub mod Exact
-pub mod Popping
 pub mod Laying
 pub mod Turn
 pub mod Touch
