@@ -87,6 +87,7 @@ pub fn put_trailer(buf: &mut [u8], trailer: Trailer)
 }
 
 // p + n(n-1) + 8.
+#[tactic(auto, using(crate::proofs::Places::half_twice, crate::proofs::Places::half_small))]
 pub fn length_of(p: usize, n: usize) -> usize
     requires n_bound { n ≤ 128 }
     requires p_bound { p < 4294967296 }
