@@ -5,7 +5,7 @@ use Prim.Native.Nat.{ℕ, zero, suc, ◌+◌, ◌*◌, ◌/◌, ◌%◌, ◌<◌
 use native.Mathlib.Numerals.{add-one}
 use native.Mathlib.Omega.{arith}
 use lib.ListN.{length, get_or, take, drop, length-append}
-use lib.Seq.{paste, take_all, length-take-le}
+use lib.Seq.{paste, length-take-le}
 use lib.IntN.{ℤ, pos}
 use mir.Syntax.{w16, w32}
 use mir.Val.{of_z}
@@ -64,12 +64,6 @@ one_score old xs k h {now} {s} so_far e {m} two =
     let more : score_bytes (take k xs) ++ s ≡ score_bytes (take (k + 1) xs) =
     ap (λ l. score_bytes (take k xs) ++ l) e ∙ more_scores xs k h ∙ ap (λ (x : ℕ). score_bytes (take x xs)) (sym (add-one k)) in
     grown_by old (score_bytes (take k xs)) s (2 * k) m front so_far ∙ ap₂ (λ l (x : ℕ). l ++ drop x old) more next
-
-pub all_scores : (old : List ℕ) (xs : List ℤ) (k : ℕ) → k ≡ length xs → score_bytes (take k xs) ++ drop (2 * k) old ≡ paste old 0 (score_bytes xs) (2 * length xs)
-all_scores old xs k e =
-    ap (λ (x : ℕ). score_bytes (take x xs) ++ drop (2 * x) old) e
-    ∙ ap (λ l. score_bytes l ++ drop (2 * length xs) old) (take_all (length xs) xs (omega arith))
-    ∙ sym (pasted old (score_bytes xs) (2 * length xs) (length_scores xs))
 
 -- four bytes of a number as the kit writes them
 pub four_bytes : (p : ℕ) → to_le_bytes w32 p ≡ low_first 4 p

@@ -103,15 +103,6 @@ module _ (n : ℕ) (scores : List ℤ) where
       go (inl p) = row b low p
       go (inr p) = let e : b ≡ j = omega arith in ap (λ (x : ℕ). on_scale (score_of n scores i x)) e ∙ here
 
-  pub one_row_on : (i j : ℕ) → RowsOn i → RowOn i j → n ≤ j → RowsOn (i + 1)
-  one_row_on i j rows row end a b h up hb = go (below a i)
-    where
-      go : (a < i) ⊎ (i ≤ a) → on_scale (score_of n scores a b) ≡ true
-      go (inl p) = rows a b p up hb
-      go (inr p) =
-          let e : a ≡ i = omega arith in
-          ap (λ (x : ℕ). on_scale (score_of n scores x b)) e ∙ row b (omega arith) (omega arith)
-
   -- the score of a pair as the code reads and tries it: z at place k, passed on by its bits
   pub tried :
       (i j : ℕ) {k : ℕ} {z : ℤ} {r b : Bool} → k ≡ spot n i j → z ≡ get_or scores k (pos 0) → mag z < 32768 →

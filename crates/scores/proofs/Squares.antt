@@ -5,7 +5,6 @@ use mathlib.Core.Logic.{◌⊎◌, inl, inr}
 use mathlib.Core.List.{List, [], ◌∷◌, ◌++◌}
 use Prim.Native.Nat.{ℕ, zero, suc, ◌+◌, ◌*◌, ◌/◌, ◌%◌, ◌≤◌, ◌<◌}
 use native.Mathlib.Nat.{suc-mul, zero-mul, mul-le-mul_right, mod-lt, div-lt_iff_lt-mul}
-use native.Mathlib.Numerals.{add-one}
 use native.Mathlib.Omega.{arith}
 use lib.ListN.{length, get_or, set, length-append, get_or-append}
 use lib.Seq.{paste, get_or-append-add, get_or_at}
@@ -79,7 +78,7 @@ row_column n c h =
     some zero c h = absurd (omega (arith, zero-mul 0))
     some (suc n) c h = omega arith
 
--- a matrix written entry by entry, row by row: one more entry, and the end of a row
+-- a matrix written entry by entry, row by row: one more entry
 module _ (n : ℕ) (f : ℕ → ℕ → ℕ) (old : List ℕ) {now : List ℕ} (i j : ℕ) (so_far : now ≡ paste old 0 (square n f) (i * n + j)) where
   pub square_more : n * n ≤ length old → {v : ℕ} → i < n → j < n → v ≡ f i j → set now (i * n + j) v ≡ paste old 0 (square n f) (i * n + (j + 1))
   square_more room hi hj e =
@@ -87,8 +86,3 @@ module _ (n : ℕ) (f : ℕ → ℕ → ℕ) (old : List ℕ) {now : List ℕ} (
       let next : i * n + j + 1 ≡ i * n + (j + 1) = omega arith in
       one_more old (square n f) (length_square n f) room (i * n + j) so_far 0 inside (e ∙ sym (square_at n f i j hi hj))
       ∙ ap (λ (x : ℕ). paste old 0 (square n f) x) next
-
-  pub square_row : j ≡ n → now ≡ paste old 0 (square n f) ((i + 1) * n)
-  square_row e =
-      let next : i * n + j ≡ (i + 1) * n = omega (arith, suc-mul i n, ap (λ (x : ℕ). x * n) (add-one i)) in
-      so_far ∙ ap (λ (x : ℕ). paste old 0 (square n f) x) next

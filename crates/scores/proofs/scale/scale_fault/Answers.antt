@@ -2,7 +2,7 @@ use mathlib.Core.Path.{sym, ◌∙◌, ap}
 use mir.Syntax.{w16}
 use mir.ValLaws.{to_z-of_z}
 use native.Mathlib.Omega.{arith}
-use Rattle.scores.proofs.ScoreFaults.{one_more_on, one_row_on, tried, scores_fine, scores_fault, threshold_fault, scores_next}
+use Rattle.scores.proofs.ScoreFaults.{one_more_on, tried, scores_fine, scores_fault, threshold_fault, scores_next}
 use Rattle.scores.specs.Scale.{on_scale}
 use Rattle.scores.proofs.scale.scale_fault.Goals as goal
 
@@ -10,12 +10,6 @@ pub returns-then-not-on_scale : goal.returns-then-not-on_scale
 returns-then-not-on_scale g c xs is =
     let t = sym (ap on_scale (to_z-of_z w16 c.args.t c.ranges.t)) ∙ sym c.on_scale.ensures in
     threshold_fault c.args.n xs c.args.t (t ∙ c.if-not-on_scale.true)
-
-pub loop-i-init : goal.loop-i-init
-loop-i-init g c xs is a b h = absurd (omega arith)
-
-pub loop-j-init : goal.loop-j-init
-loop-j-init g c xs is b low up = absurd (omega arith)
 
 pub returns-then-not-on_scale-2 : goal.returns-then-not-on_scale-2
 returns-then-not-on_scale-2 g c xs is =
@@ -34,10 +28,6 @@ loop-j-preserved g c xs is =
     let here = is k.result s.result k.ensures.1 s.ensures in
     let on = tried c.args.n xs c.loop-i.i c.loop-j.j k.ensures.0 here s.type_inv c.on_scale-in-loop-j.ensures c.if-not-on_scale-2.false in
     one_more_on c.args.n xs c.loop-i.i c.loop-j.j (c.loop-j.invariant xs is) on
-
-pub loop-i-preserved : goal.loop-i-preserved
-loop-i-preserved g c xs is =
-    one_row_on c.args.n xs c.loop-i.i c.loop-j.j (c.loop-i.invariant xs is) (c.loop-j.invariant xs is) c.loop-j-test.false
 
 pub returns : goal.returns
 returns g c xs is =
