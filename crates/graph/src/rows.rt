@@ -43,7 +43,7 @@ fn word_of(n: usize, g: &[u8], i: usize, off: usize) -> u64
     w
 }
 
-// Row i of the graph.
+// Row i of the graph: two words, not a `Row`, as rows_of's type is document 01's form, "128 rows of two such words".
 fn row_of(n: usize, g: &[u8], i: usize) -> [u64; 2]
     requires n_bound { n ≤ 128 }
     requires g_len { length g.now ≡ n * n }
@@ -60,6 +60,7 @@ pub fn rows_of(n: usize, g: &[u8]) -> [[u64; 2]; 128]
     ensures { Rowed n g.now result }
 {
     let mut rows = [[0u64; 2]; 128];
+    // by index: over iter_mut the loop holds the first n rows alone, and a closure for from_fn needs row_of's clauses again
     for i in 0..n {
         rows[i] = row_of(n, g, i);
     }
@@ -78,7 +79,8 @@ pub fn flat_of(rows: [[u64; 2]; 128]) -> [u64; 256]
     words
 }
 
-// Are x and y adjacent?
+// Are x and y adjacent? The words are a slice, here and below: callers lend a part of their memory, and a narrower type
+// would ask more of them.
 pub fn adjacent(words: &[u64], x: usize, y: usize) -> bool
     requires words_len { length words.now ≡ 256 }
     requires x_bound { x < 128 }
