@@ -55,11 +55,11 @@ fn touched_of(taken: &[u64], q: Quad) -> bool
 impl<'a> Walk<'a> {
     // What the pair of x and y costs.
     #[tactic(auto, unfolding(crate::specs::Pass::cost_of))]
-    fn cost_of(&self, x: usize, y: usize) -> u32
+    fn cost_of(&self, x: usize, y: usize) -> u16
         requires { (x < 128) × (y < 128) }
-        ensures { (result ≡ cost_of self.now.cost.now x y) × (result < 65536) }
+        ensures { result ≡ cost_of self.now.cost.now x y }
     {
-        u32::from(self.cost[x.min(y) * 128 + x.max(y)])
+        self.cost[x.min(y) * 128 + x.max(y)]
     }
 
     // The pair of x and y is laid, if it is free; the lower of its cost and low.
@@ -70,11 +70,11 @@ impl<'a> Walk<'a> {
     {
         let p = self.cost_of(x, y);
         // The table (`prices::costs`) keeps document 01's 65,535 for a pair that is not free.
-        if 65535 <= p {
+        if graph::FIXED <= p {
             return low;
         }
         mark(taken, x, y);
-        p.min(low)
+        u32::from(p).min(low)
     }
 
     // All six pairs, and the lowest cost.

@@ -33,6 +33,7 @@ fn packing_of(n: usize, g: &[u8], prices: &[u16]) -> u32
     let rows = graph::rows::rows_of(n, g);
     let words = graph::rows::flat_of(rows);
     let cost = prices::costs(n, prices);
+    // The greatest room: a bound past it is document 01's 4,294,967,295, which is what `within` then gives.
     pack::within(&words, &cost, n, 4294967294)
 }
 
