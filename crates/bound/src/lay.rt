@@ -10,8 +10,8 @@ use crate::Walk;
 use graph::Quad;
 
 // The entry at row x, column y is used.
-fn mark_entry(taken: &mut [u64], x: usize, y: usize)
-    requires { (length taken.old ≡ 256) × (x < 128) × (y < 128) }
+fn mark_entry(taken: &mut [u64; 256], x: usize, y: usize)
+    requires { (x < 128) × (y < 128) }
     ensures { (length taken.new ≡ 256)
         × ((i j : ℕ) → word_edge taken.new i j ≡ ((eqb i x && eqb j y) || word_edge taken.old i j)) }
 {
@@ -22,8 +22,8 @@ fn mark_entry(taken: &mut [u64], x: usize, y: usize)
 }
 
 // The pair of x and y is used.
-fn mark(taken: &mut [u64], x: usize, y: usize)
-    requires { (length taken.old ≡ 256) × (x < 128) × (y < 128) }
+fn mark(taken: &mut [u64; 256], x: usize, y: usize)
+    requires { (x < 128) × (y < 128) }
     ensures { Marked x y taken.old taken.new }
 {
     mark_entry(taken, y, x);
@@ -31,8 +31,8 @@ fn mark(taken: &mut [u64], x: usize, y: usize)
 }
 
 // Is the pair of a and b, of a and c or of b and c used?
-pub fn shut(taken: &[u64], a: usize, b: usize, c: usize) -> bool
-    requires { (length taken.now ≡ 256) × (a < 128) × (b < 128) × (c < 128) }
+pub fn shut(taken: &[u64; 256], a: usize, b: usize, c: usize) -> bool
+    requires { (a < 128) × (b < 128) × (c < 128) }
     ensures { result ≡ (word_edge taken.now a b
         || (word_edge taken.now a c || word_edge taken.now b c)) }
 {
@@ -42,8 +42,8 @@ pub fn shut(taken: &[u64], a: usize, b: usize, c: usize) -> bool
 }
 
 // Is one of the six pairs used?
-fn touched_of(taken: &[u64], q: Quad) -> bool
-    requires { (length taken.now ≡ 256) × (q.a < 128) × (q.b < 128) × (q.c < 128) × (q.d < 128) }
+fn touched_of(taken: &[u64; 256], q: Quad) -> bool
+    requires { (q.a < 128) × (q.b < 128) × (q.c < 128) × (q.d < 128) }
     ensures { result ≡ touched q.a q.b q.c q.d (word_edge taken.now) }
 {
     shut(taken, q.a, q.b, q.c)
@@ -63,8 +63,8 @@ impl<'a> Walk<'a> {
     }
 
     // The pair of x and y is laid, if it is free; the lower of its cost and low.
-    fn lay(&self, taken: &mut [u64], x: usize, y: usize, low: u32) -> u32
-        requires { (length taken.old ≡ 256) × (x < 128) × (y < 128) }
+    fn lay(&self, taken: &mut [u64; 256], x: usize, y: usize, low: u32) -> u32
+        requires { (x < 128) × (y < 128) }
         ensures { Laid (laid self.now.cost.now x y (word_edge taken.old))
             (lower self.now.cost.now x y low) taken.new result }
     {
@@ -78,8 +78,7 @@ impl<'a> Walk<'a> {
     }
 
     // All six pairs, and the lowest cost.
-    fn lay_all(&self, taken: &mut [u64], q: Quad) -> u32
-        requires taken_len { length taken.old ≡ 256 }
+    fn lay_all(&self, taken: &mut [u64; 256], q: Quad) -> u32
         requires q_bound { (q.a < 128) × (q.b < 128) × (q.c < 128) × (q.d < 128) }
         ensures { Laid (laid_all self.now.cost.now q.a q.b q.c q.d (word_edge taken.old))
             (fee self.now.cost.now q.a q.b q.c q.d) taken.new result }
@@ -92,7 +91,7 @@ impl<'a> Walk<'a> {
     }
 
     // The quad q is visited: the sum after it, `None` where that is past the room.
-    pub fn visit(&self, taken: &mut [u64], q: Quad, total: u32) -> Option<u32>
+    pub fn visit(&self, taken: &mut [u64; 256], q: Quad, total: u32) -> Option<u32>
         requires ready { Ready taken.old total self.now.room }
         requires q_bound { (q.a < 128) × (q.b < 128) × (q.c < 128) × (q.d < 128) }
         ensures { Left self.now.room (visit self.now.cost.now q.a q.b q.c q.d (held taken.old total)) taken.new result }
