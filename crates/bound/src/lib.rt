@@ -1,8 +1,9 @@
 // The packing bound: the working table of costs, the walk by masks, and the entry point.
 #![tactic(auto)]
 
-ghost use Rattle.std.specs.Prelude.{◌≡◌, ◌*◌, ◌≤◌, length, Ok};
+ghost use Rattle.std.specs.Prelude.{◌≡◌, false, ℕ, ◌*◌, ◌≤◌, length, Ok};
 ghost use Rattle.graph.specs.Check.{entries};
+ghost use Rattle.graph.specs.Graph.{word_edge};
 ghost use Rattle.graph.specs.Price.{price_entries};
 ghost use Rattle.bound.specs.Answer.{packing_of, Promise};
 
@@ -11,6 +12,17 @@ pub mod pack;
 pub mod prices;
 
 use graph::Refusal;
+
+// What stays the same on the walk: the graph in words, the table of costs, and the room for the sum.
+#[derive(Clone, Copy)]
+struct Walk<'a> {
+    g: &'a [u64],
+    cost: &'a [u16],
+    room: u32,
+    ghost words: { length g.now ≡ 256 },
+    ghost table: { length cost.now ≡ 16384 },
+    ghost loopless: { (x : ℕ) → word_edge g.now x x ≡ false },
+}
 
 // The bound of a graph and prices that passed their checks.
 fn packing_of(n: usize, g: &[u8], prices: &[u16]) -> u32
@@ -21,6 +33,7 @@ fn packing_of(n: usize, g: &[u8], prices: &[u16]) -> u32
     let rows = graph::rows::rows_of(n, g);
     let words = graph::rows::flat_of(rows);
     let cost = prices::costs(n, prices);
+    // The greatest room: a bound past it is document 01's 4,294,967,295, which is what `within` then gives.
     pack::within(&words, &cost, n, 4294967294)
 }
 

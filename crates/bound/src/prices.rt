@@ -13,7 +13,7 @@ fn allowed(i: usize, j: usize, p: u16) -> bool
     if i == j {
         p == 0
     } else {
-        matches!(p, 1..=10000 | 65535)
+        matches!(p, 1..=10000 | graph::FIXED)
     }
 }
 
@@ -49,7 +49,7 @@ pub fn costs(n: usize, prices: &[u16]) -> [u16; 16384]
     requires prices_len { length prices.now ≡ n * n }
     ensures { Costs n prices.now result }
 {
-    let mut cost = [65535u16; 16384];
+    let mut cost = [graph::FIXED; 16384];
     for i in 0..n {
         // the pairs of i and the vertices above it
         cost[i * 128 + i + 1..i * 128 + n].copy_from_slice(&prices[i * n + i + 1..i * n + n]);

@@ -4,4 +4,4 @@ use Rattle.bound.proofs.lay.mark_entry.Goals as goal
 
 pub returns : goal.returns
 returns c =
-    marked_entry _ _ c.requires.1 c.requires.2 _ c.requires.0 _ _ c.flipped.ensures c.either.ensures
+    marked_entry _ _ c.requires.0 c.requires.1 _ c.told-taken _ _ c.flipped.ensures c.either.ensures

@@ -9,13 +9,13 @@ use Rattle.bound.proofs.lay.touched_of.Goals.{then-shut, else-shut, then-adjacen
 pub returns-then-adjacent-2 : goal.returns-then-adjacent-2
 returns-then-adjacent-2 c =
     let u = word_edge c.args.taken.now in
-    let x : c.if-shut.value ≡ (c.shut.result || u c.args.a c.args.d) =
+    let x : c.if-shut.value ≡ (c.shut.result || u c.args.q.a c.args.q.d) =
     elim c.if-shut.branch [
       | then-shut w ↦ rw (w.value-is, w.if-shut.true) refl
       | else-shut w ↦ rw (w.value-is, w.if-shut.false, w.adjacent.ensures) refl
     ]
     in
-    let y : c.if-adjacent.value ≡ (c.if-shut.value || u c.args.b c.args.d) =
+    let y : c.if-adjacent.value ≡ (c.if-shut.value || u c.args.q.b c.args.q.d) =
     elim c.if-adjacent.branch [
       | then-adjacent w ↦ rw (w.value-is, w.if-adjacent.true) refl
       | else-adjacent w ↦ rw (w.value-is, w.if-adjacent.false, w.adjacent-else-adjacent.ensures) refl
@@ -26,13 +26,13 @@ returns-then-adjacent-2 c =
 pub returns-else-adjacent-2 : goal.returns-else-adjacent-2
 returns-else-adjacent-2 c =
     let u = word_edge c.args.taken.now in
-    let x : c.if-shut.value ≡ (c.shut.result || u c.args.a c.args.d) =
+    let x : c.if-shut.value ≡ (c.shut.result || u c.args.q.a c.args.q.d) =
     elim c.if-shut.branch [
       | then-shut w ↦ rw (w.value-is, w.if-shut.true) refl
       | else-shut w ↦ rw (w.value-is, w.if-shut.false, w.adjacent.ensures) refl
     ]
     in
-    let y : c.if-adjacent.value ≡ (c.if-shut.value || u c.args.b c.args.d) =
+    let y : c.if-adjacent.value ≡ (c.if-shut.value || u c.args.q.b c.args.q.d) =
     elim c.if-adjacent.branch [
       | then-adjacent w ↦ rw (w.value-is, w.if-adjacent.true) refl
       | else-adjacent w ↦ rw (w.value-is, w.if-adjacent.false, w.adjacent-else-adjacent.ensures) refl

@@ -2,11 +2,11 @@ use native.Mathlib.Omega.{arith}
 use mathlib.Core.Path.{◌≡◌, refl}
 use Rattle.bound.specs.Pass.{laid_all, fee}
 use Rattle.bound.proofs.Laying.{laid_more}
-use Rattle.bound.proofs.lay.lay_all.Goals as goal
+use Rattle.bound.proofs.Walk.lay_all.Goals as goal
 
 pub loop-x-init : goal.loop-x-init
 loop-x-init c =
-    record { many = c.requires.cost_len.1; edges = refl; lowest = refl }
+    record { many = c.told-taken; edges = refl; lowest = refl }
 
 pub loop-x-preserved : goal.loop-x-preserved
 loop-x-preserved c =
