@@ -11,7 +11,8 @@ ghost use Rattle.search.specs.Answer.{checks, Answered, Promise};
 ghost use Rattle.search.specs.Ends.{Told, Engaged};
 
 use graph::Refusal;
-use memory::{Tally, trail};
+use memory::Tally;
+use memory::trail::{self, Trail};
 use room::Room;
 use std::fmt;
 use tree::Search;
@@ -20,7 +21,8 @@ pub mod room;
 pub mod tree;
 
 // What an engine answers to a call that passes the checks: 9, more nodes than the step limit; 8, no repair within the budget;
-// or the cheapest repair, whose pairs are the lent list's first entries.
+// or the cheapest repair, whose pairs are the lent list's first entries. 8 and 9 are answers with steps, not refusals:
+// document 01.
 #[derive(Clone, Copy, Debug, PartialEq, Eq)]
 pub enum Answer {
     Stopped {
@@ -123,7 +125,7 @@ fn engine(
     let mut room = Room {
         words: graph::rows::flat_of(rows),
         cost: bound::prices::costs(n, prices),
-        path: [0u16; 8128],
+        path: Trail::over([0u16; 8128]),
         kept: [0u16; 8128],
     };
     let start = Tally {
@@ -131,7 +133,7 @@ fn engine(
         limit: k,
         kept: None,
     };
-    let t = search.node(&mut room, 0, 0, start);
+    let t = search.node(&mut room, 0, start);
     told(t, most, &room.kept, list)
 }
 
@@ -152,7 +154,7 @@ fn either(
     Ok(engine(rows, prices, n, prune, k, most, list))
 }
 
-// The plain engine: it leaves no node early.
+// The plain engine: it leaves no node early. Two entry points: README and docs/CONTRACTS.md name both.
 pub fn plain(
     n: usize,
     graph: &[u8],
