@@ -1,5 +1,5 @@
 // What a node does besides calling itself: the tests, the toggling and the path, and the repair that is kept.
-ghost use Rattle.std.specs.Prelude.{◌≡◌, ◌&&◌, ◌+◌, ◌/◌, ◌%◌, ◌≤◌, ◌<◌, length, take, ltb, leb};
+ghost use Rattle.std.specs.Prelude.{◌≡◌, ◌&&◌, ◌+◌, ◌/◌, ◌%◌, ◌≤◌, ◌<◌, length, ltb, leb};
 ghost use Rattle.graph.specs.Graph.{IsGraph, word_edge};
 ghost use Rattle.graph.specs.Quad.{quads};
 ghost use Rattle.graph.specs.Rows.{Toggled};
@@ -11,6 +11,7 @@ ghost use Rattle.memory.specs.Tally.{Entered, Within, Kept, improves, budget};
 
 use crate::trail::{self, Trail};
 use crate::{Tally, table};
+use graph::FIXED;
 
 // Entering a node is one step.
 pub fn entered(t: Tally) -> Tally
@@ -29,7 +30,7 @@ pub fn opens(price: u16, spent: u32, most: u64, t: Tally) -> bool
     requires { spent ≤ budget }
     ensures { result ≡ (leb t.steps most && (ltb price 65535 && leb (spent + price) t.limit)) }
 {
-    t.steps <= most && price < 65535 && spent + price as u32 <= t.limit
+    t.steps <= most && price < FIXED && spent + price as u32 <= t.limit
 }
 
 // The price of the node below.
@@ -88,13 +89,14 @@ pub fn keep(path: &Trail, kept: &mut [u16], spent: u32, t: Tally) -> Tally
     requires { (length path.now ≤ length kept.old) × Within t.kept (length kept.old) }
     ensures { Kept path.now kept.old kept.new spent t result }
 {
-    if !improves(path.as_slice(), kept, spent, t) {
+    let found = path.as_slice();
+    if !improves(found, kept, spent, t) {
         return t;
     }
-    trail::copy(path.as_slice(), kept, path.len());
+    trail::copy(found, kept, found.len());
     Tally {
         limit: spent,
-        kept: Some(path.len()),
+        kept: Some(found.len()),
         ..t
     }
 }

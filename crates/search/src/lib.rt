@@ -6,7 +6,6 @@ ghost use Rattle.graph.specs.Refusal.{first_of};
 ghost use Rattle.graph.specs.Graph.{row_edge};
 ghost use Rattle.repair.specs.Repair.{toll_of};
 ghost use Rattle.memory.specs.Tally.{Within};
-ghost use Rattle.search.specs.Memory.{pairs};
 ghost use Rattle.search.specs.Answer.{checks, Answered, Promise};
 ghost use Rattle.search.specs.Ends.{Told, Engaged};
 
@@ -52,14 +51,6 @@ impl fmt::Display for Answer {
     }
 }
 
-// How many pairs n vertices have.
-fn pairs_of(n: usize) -> usize
-    requires { n ≤ 128 }
-    ensures { result ≡ pairs n }
-{
-    n * n.saturating_sub(1) / 2
-}
-
 // The first refusal in the call's order whose row holds.
 fn check(n: usize, graph: &[u8], prices: &[u16], k: u32, list: &[u16]) -> Result<(), Refusal>
     ensures { result ≡ first_of (checks n graph.now prices.now k list.now) }
@@ -78,7 +69,7 @@ fn check(n: usize, graph: &[u8], prices: &[u16], k: u32, list: &[u16]) -> Result
     if 81280000 < k {
         return Err(Refusal::BudgetTooLarge);
     }
-    if list.len() < pairs_of(n) {
+    if list.len() < graph::pairs_of(n) {
         return Err(Refusal::NoRoom);
     }
     Ok(())

@@ -21,7 +21,7 @@ pub told-requires : goal.told-requires
 told-requires c =
     let d = c.node-t in
     let small = pairs_small c.args.n c.requires.few in
-    (within_more d.result.kept d.ensures.sound.listed (omega (arith, d.auto, small)), within_more d.result.kept d.ensures.sound.listed c.requires.room)
+    (within_more d.result.kept d.ensures.sound.listed (omega (arith, small)), within_more d.result.kept d.ensures.sound.listed c.requires.room)
 
 pub returns : goal.returns
 returns c =
