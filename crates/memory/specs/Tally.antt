@@ -1,5 +1,5 @@
 -- The tally, and the repair that is kept. Assumes nothing.
-use Rattle.std.specs.Prelude.{◌≡◌, Bool, true, ◌&&◌, ◌||◌, List, ◌++◌, ℕ, suc, ◌≤◌, take, drop, ltb, eqb, Option, Some, None}
+use Rattle.std.specs.Prelude.{◌≡◌, Bool, true, ◌&&◌, ◌||◌, List, ◌++◌, ℕ, suc, ◌≤◌, length, take, drop, ltb, eqb, Option, Some, None}
 use Rattle.bits.specs.Choice.{pick}
 use Rattle.repair.specs.Better.{smaller}
 use Rattle.memory.specs.declared.Tally.{Tally}
@@ -29,8 +29,8 @@ abbrev pub improves : List ℕ → List ℕ → ℕ → Tally → Bool
 improves trail list spent t = improves_on trail list spent t.limit t.kept
 
 -- ".. and set the limit to the kept price"
-pub record Kept (trail list after : List ℕ) (count spent : ℕ) (t r : Tally) : Type 0 where
+pub record Kept (trail list after : List ℕ) (spent : ℕ) (t r : Tally) : Type 0 where
   pub same_steps : r.steps ≡ t.steps
   pub new_limit : r.limit ≡ pick (improves trail list spent t) spent t.limit
-  pub new_kept : r.kept ≡ pick (improves trail list spent t) (Some count) t.kept
-  pub new_list : after ≡ pick (improves trail list spent t) (trail ++ drop count list) list
+  pub new_kept : r.kept ≡ pick (improves trail list spent t) (Some (length trail)) t.kept
+  pub new_list : after ≡ pick (improves trail list spent t) (trail ++ drop (length trail) list) list

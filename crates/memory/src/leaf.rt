@@ -1,5 +1,5 @@
 // What a node does besides calling itself: the tests, the toggling and the path, and the repair that is kept.
-ghost use Rattle.std.specs.Prelude.{◌≡◌, ◌&&◌, ◌+◌, ◌/◌, ◌%◌, ◌≤◌, ◌<◌, length, take, ltb, leb};
+ghost use Rattle.std.specs.Prelude.{◌≡◌, ◌&&◌, ◌+◌, ◌/◌, ◌%◌, ◌≤◌, ◌<◌, length, ltb, leb};
 ghost use Rattle.graph.specs.Graph.{IsGraph, word_edge};
 ghost use Rattle.graph.specs.Quad.{quads};
 ghost use Rattle.graph.specs.Rows.{Toggled};
@@ -9,7 +9,9 @@ ghost use Rattle.memory.specs.Table.{Place, number_at};
 ghost use Rattle.memory.specs.Trail.{Put, Closed};
 ghost use Rattle.memory.specs.Tally.{Entered, Within, Kept, improves, budget};
 
-use crate::{Tally, table, trail};
+use crate::trail::{self, Trail};
+use crate::{Tally, table};
+use graph::FIXED;
 
 // Entering a node is one step.
 pub fn entered(t: Tally) -> Tally
@@ -28,7 +30,7 @@ pub fn opens(price: u16, spent: u32, most: u64, t: Tally) -> bool
     requires { spent ≤ budget }
     ensures { result ≡ (leb t.steps most && (ltb price 65535 && leb (spent + price) t.limit)) }
 {
-    t.steps <= most && price < 65535 && spent + price as u32 <= t.limit
+    t.steps <= most && price < FIXED && spent + price as u32 <= t.limit
 }
 
 // The price of the node below.
@@ -49,51 +51,52 @@ pub fn leaves(words: &[u64], cost: &[u16], n: usize, prune: bool, spent: u32, li
 }
 
 // The pair at p is toggled, and its number put into the path, at the place that is returned.
-pub fn enter(words: &mut [u64], path: &mut [u16], count: usize, n: usize, p: usize) -> usize
-    requires words_len { (length words.old ≡ 256) × (length path.old ≡ 8128) × (count < 8128) × (n ≤ 128) × (p < 16384) }
+pub fn enter(words: &mut [u64], path: &mut Trail, n: usize, p: usize) -> usize
+    requires words_len { (length words.old ≡ 256) × (length path.old < 8128) × (n ≤ 128) × (p < 16384) }
     requires place { Place n p }
     ensures toggled { Toggled (p / 128) (p % 128) words.old words.new }
-    ensures put { Put count (number_at n p) path.old path.new result }
+    ensures put { Put (number_at n p) path.old path.new result }
 {
     graph::rows::toggle(words, p / 128, p % 128);
-    trail::put(path, count, table::number(n, p))
+    path.put(table::number(n, p))
 }
 
 // The pair at p is toggled back, and taken out of the path.
-pub fn leave(words: &mut [u64], path: &mut [u16], count: usize, n: usize, p: usize, at: usize)
-    requires words_len { (length words.old ≡ 256) × (length path.old ≡ 8128) × (count < 8128) × (n ≤ 128) × (p < 16384) }
+pub fn leave(words: &mut [u64], path: &mut Trail, n: usize, p: usize, at: usize)
+    requires words_len { (length words.old ≡ 256) × (n ≤ 128) × (p < 16384) }
     requires place { Place n p }
-    requires at_le_count { at ≤ count }
+    requires at_inside { at < length path.old }
     ensures toggled { Toggled (p / 128) (p % 128) words.old words.new }
-    ensures closed { Closed count at path.old path.new }
+    ensures closed { Closed at path.old path.new }
 {
-    graph::rows::toggle(words, p / 128, p % 128); // back
-    trail::close(path, count, at);
+    graph::rows::toggle(words, p / 128, p % 128); // a pair toggled twice is as it was
+    path.close(at);
 }
 
 // Is the repair of the path kept?
-fn improves(path: &[u16], kept: &[u16], count: usize, spent: u32, t: Tally) -> bool
-    requires { (count ≤ length path.now) × Within t.kept (length kept.now) }
-    ensures { result ≡ improves (take count path.now) kept.now spent t }
+fn improves(path: &[u16], kept: &[u16], spent: u32, t: Tally) -> bool
+    requires { Within t.kept (length kept.now) }
+    ensures { result ≡ improves path.now kept.now spent t }
 {
     let Some(pairs) = t.kept else {
         return true;
     };
-    spent < t.limit || spent == t.limit && trail::precedes(&path[..count], &kept[..pairs])
+    spent < t.limit || (spent == t.limit && trail::precedes(path, &kept[..pairs]))
 }
 
 // The repair of the path is kept if none is or if it is better.
-pub fn keep(path: &[u16], kept: &mut [u16], count: usize, spent: u32, t: Tally) -> Tally
-    requires { (count ≤ length path.now) × (count ≤ length kept.old) × Within t.kept (length kept.old) }
-    ensures { Kept (take count path.now) kept.old kept.new count spent t result }
+pub fn keep(path: &Trail, kept: &mut [u16], spent: u32, t: Tally) -> Tally
+    requires { (length path.now ≤ length kept.old) × Within t.kept (length kept.old) }
+    ensures { Kept path.now kept.old kept.new spent t result }
 {
-    if !improves(path, kept, count, spent, t) {
+    let found = path.as_slice();
+    if !improves(found, kept, spent, t) {
         return t;
     }
-    trail::copy(path, kept, count);
+    trail::copy(found, kept, found.len());
     Tally {
         limit: spent,
-        kept: Some(count),
+        kept: Some(found.len()),
         ..t
     }
 }

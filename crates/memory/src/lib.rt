@@ -7,7 +7,8 @@ pub mod table;
 pub mod trail;
 
 // "One running tally": the steps, the limit, and the number of pairs of the repair that is kept, if one is. Where the tree
-// has too many nodes the steps are one above the step limit.
+// has too many nodes the steps are one above the step limit: not Option with `?`, since a stopped search still gives marks,
+// pairs and path back (NodeLeft), which `?` would skip.
 #[derive(Clone, Copy)]
 pub struct Tally {
     pub steps: u64,

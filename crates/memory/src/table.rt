@@ -6,7 +6,7 @@ ghost use Rattle.memory.specs.Table.{number_at, Marked, Olds, Apart};
 
 use std::{array, mem};
 
-// The place of the pair of x and y.
+// The place of the pair of x and y: the table's index, row x 128 + column (Place). `as`: the clause has the range.
 fn place(x: usize, y: usize) -> u16
     requires { (x < 128) × (y < 128) }
     ensures { result ≡ pair_of 128 x y }
@@ -29,7 +29,7 @@ pub fn places(q: graph::Quad) -> [u16; 6]
     ]
 }
 
-// The number of the pair at p.
+// The number of the pair at p. `as`: the clause has the range.
 pub fn number(n: usize, p: usize) -> u16
     requires { (n ≤ 128) × (p < 16384) }
     ensures { result ≡ number_at n p }
@@ -43,7 +43,7 @@ pub fn mark(cost: &mut [u16], p: usize) -> u16
     requires { p < length cost.old }
     ensures { Marked p cost.old cost.new result }
 {
-    mem::replace(&mut cost[p], 65535)
+    mem::replace(&mut cost[p], graph::FIXED)
 }
 
 // The costs at the six places.

@@ -8,8 +8,6 @@ use Prim.Native.Nat.{ℕ, zero, suc, ◌+◌, ◌≤◌, ◌<◌}
 use native.Mathlib.Omega.{arith}
 use borrow.Author.Tests.{le-leb, lt-leb}
 use lib.Dec.{leb, ltb}
-use lib.ListN.{length, take}
-use lib.Seq.{length-take-le}
 use Rattle.graph.specs.declared.Quad.{Quad}
 use Rattle.std.specs.Prelude.{Option as Found, None, Some}
 use Rattle.graph.specs.Graph.{word_edge}
@@ -36,9 +34,9 @@ use Rattle.search.proofs.Keeping.{Stored, stored}
 
 module _
     {n : ℕ} {e : ℕ → ℕ → Bool} {toll : ℕ → ℕ} {k most : ℕ} {s : Node} {o : problem.Tally (Option (List ℕ))}
-    {words cost path kept : List ℕ} {count spent : ℕ} {t here : Tally}
+    {words cost path kept : List ℕ} {spent : ℕ} {t here : Tally}
     (prune : Bool)
-    (at : memory.At n e toll s words cost path count spent)
+    (at : memory.At n e toll s words cost path spent)
     (same : Same toll k most o t kept)
     (step : Entered t here)
   where
@@ -81,11 +79,11 @@ module _
       done x h = ap (λ g. is_clear (first (quads n g))) (sym at.edges) ∙ ap is_clear h
 
       pub node_found :
-          (f : ℕ) (r : Tally) (after : List ℕ) → left n toll s < f → count ≤ length path →
-          first (quads n (word_edge words)) ≡ None → Kept (take count path) kept after count spent here r →
+          (f : ℕ) (r : Tally) (after : List ℕ) → left n toll s < f →
+          first (quads n (word_edge words)) ≡ None → Kept path kept after spent here r →
           Follows toll k most (runs n e toll prune k most f s o) r after
-      node_found zero r after fuel long clear keep = absurd (omega arith)
-      node_found (suc f) r after fuel long clear keep =
+      node_found zero r after fuel clear keep = absurd (omega arith)
+      node_found (suc f) r after fuel clear keep =
           told (suc f) r after (whole (found (tree n e toll) (best_of (order toll) k) s (entered o)))
           (run_found (tree n e toll) (best_of (order toll) k) (engine n e toll prune) most f s o on (done None clear))
           (unfold found entered in
@@ -96,13 +94,13 @@ module _
             kept = kept_now.kept;
           })
         where
-          spent_trail : spent ≡ price toll (take count path)
+          spent_trail : spent ≡ price toll path
           spent_trail = at.price ∙ ap (price toll) (sym at.trail)
 
           kept_now : Stored toll k (keep_better (order toll) o.kept s.path) r after
           kept_now =
               subst (λ z. Stored toll k (keep_better (order toll) o.kept z) r after) at.trail
-              (stored toll k (take count path) kept spent here spent_trail count after r (sym (length-take-le count path long)) keep
+              (stored toll k path kept spent here spent_trail after r keep
               o.kept limit_here held_here)
 
       module _ (q : Quad) (quad : first (quads n (word_edge words)) ≡ Some q) where

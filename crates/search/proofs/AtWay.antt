@@ -44,9 +44,9 @@ opened most c spent t on =
     }
 
 module _
-    {n : ℕ} {e : ℕ → ℕ → Bool} {toll : ℕ → ℕ} {s : Node} {words cost path : List ℕ} {count spent : ℕ}
+    {n : ℕ} {e : ℕ → ℕ → Bool} {toll : ℕ → ℕ} {s : Node} {words cost path : List ℕ} {spent : ℕ}
     (prune : Bool) (k most f p : ℕ) (t : Tally) (list : List ℕ)
-    (at : At n e toll s words cost path count spent)
+    (at : At n e toll s words cost path spent)
     (few : n ≤ 128)
     (place : Place n p)
     (fits : p < length cost)

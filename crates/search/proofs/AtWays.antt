@@ -24,9 +24,9 @@ use Rattle.search.proofs.States.{at_mark}
 
 -- the memory is as it was, so it stands for the same node
 pub at_back :
-    {n : ℕ} {e : ℕ → ℕ → Bool} {toll : ℕ → ℕ} {s : Node} {words cost path : List ℕ} {count spent : ℕ}
-    (words' cost' path' : List ℕ) → Back words cost path count words' cost' path' →
-    At n e toll s words cost path count spent → At n e toll s words' cost' path' count spent
+    {n : ℕ} {e : ℕ → ℕ → Bool} {toll : ℕ → ℕ} {s : Node} {words cost path : List ℕ} {spent : ℕ}
+    (words' cost' path' : List ℕ) → Back words cost path words' cost' path' →
+    At n e toll s words cost path spent → At n e toll s words' cost' path' spent
 at_back words' cost' path' back at =
     rw (back.words_back, back.cost_back)
     (record {
@@ -41,11 +41,11 @@ at_back words' cost' path' back at =
 -- how far the run has come when w ways are tried
 pub record Reached
     (n : ℕ) (e : ℕ → ℕ → Bool) (toll : ℕ → ℕ) (prune : Bool) (k most f : ℕ) (s : Node) (o : problem.Tally (Option (List ℕ)))
-    (words cost path kept : List ℕ) (count spent : ℕ) (places : List ℕ) (t : Tally) (w : ℕ)
+    (words cost path kept : List ℕ) (spent : ℕ) (places : List ℕ) (t : Tally) (w : ℕ)
     : Type 0 where
   pub node : Node
   pub out : Outcome (Option (List ℕ))
-  pub at : At n e toll node words cost path count spent
+  pub at : At n e toll node words cost path spent
   pub fuel : left n toll node ≤ f
   pub follows : Follows toll k most out t kept
   pub rest :
@@ -54,11 +54,11 @@ pub record Reached
 
 module _
     (n : ℕ) (e : ℕ → ℕ → Bool) (toll : ℕ → ℕ) (prune : Bool) (k most f : ℕ) (s : Node) (o : problem.Tally (Option (List ℕ)))
-    (words cost path kept : List ℕ) (count spent : ℕ) (places : List ℕ) (t : Tally)
+    (words cost path kept : List ℕ) (spent : ℕ) (places : List ℕ) (t : Tally)
   where
     pub reached_none :
-        At n e toll s words cost path count spent → left n toll s ≤ f → Same toll k most o t kept →
-        Reached n e toll prune k most f s o words cost path kept count spent places t 0
+        At n e toll s words cost path spent → left n toll s ≤ f → Same toll k most o t kept →
+        Reached n e toll prune k most f s o words cost path kept spent places t 0
     unfolding next
     reached_none at fuel same =
         record { node = s; out = whole o; at = at; fuel = fuel; follows = same; rest = refl }
@@ -67,10 +67,10 @@ module _
     pub reached_more :
         (w : ℕ) (words' cost' path' kept' : List ℕ) (r : Tally) → n ≤ 128 → Place n (get_or places w 0) →
         get_or places w 0 < length cost → w < length places →
-        Back words (set cost (get_or places w 0) fixed) path count words' cost' path' →
-        Tried n prune most words cost path kept count spent (get_or places w 0) t r kept' →
-        Reached n e toll prune k most f s o words cost path kept count spent places t w →
-        Reached n e toll prune k most f s o words' cost' path' kept' count spent places r (w + 1)
+        Back words (set cost (get_or places w 0) fixed) path words' cost' path' →
+        Tried n prune most words cost path kept spent (get_or places w 0) t r kept' →
+        Reached n e toll prune k most f s o words cost path kept spent places t w →
+        Reached n e toll prune k most f s o words' cost' path' kept' spent places r (w + 1)
     reached_more w words' cost' path' kept' r few place fits inside back did so =
         record {
           node = mark so.node x;
@@ -92,7 +92,7 @@ module _
 
     -- all ways are tried
     pub reached_all :
-        (w : ℕ) → length places ≤ w → Reached n e toll prune k most f s o words cost path kept count spent places t w →
+        (w : ℕ) → length places ≤ w → Reached n e toll prune k most f s o words cost path kept spent places t w →
         Follows toll k most (tries n e toll prune k most f s (map (number_at n) places) o) t kept
     reached_all w all so =
         subst⁻¹ (λ z. Follows toll k most z t kept)

@@ -14,8 +14,8 @@ use Rattle.search.specs.Memory.{At}
 use Rattle.bound.proofs.Alike.{packing_agrees}
 
 module _
-    {n : ℕ} {e : ℕ → ℕ → Bool} {toll : ℕ → ℕ} {s : Node} {words cost path : List ℕ} {count spent : ℕ}
-    (h : At n e toll s words cost path count spent)
+    {n : ℕ} {e : ℕ → ℕ → Bool} {toll : ℕ → ℕ} {s : Node} {words cost path : List ℕ} {spent : ℕ}
+    (h : At n e toll s words cost path spent)
   where
     packing_read :
         packing n (free_at n cost) (toll_at n cost) (quads n (word_edge words)) ≡

@@ -6,7 +6,7 @@ use mathlib.Core.Bool.{true, false, ◌&&◌, ◌||◌}
 use mathlib.Core.List.{List, ◌++◌}
 use mathlib.Core.Option.{Option, none, some}
 use Prim.Native.Nat.{ℕ}
-use Rattle.std.specs.Prelude.{Some, None}
+use Rattle.std.specs.Prelude.{None}
 use lib.Dec.{ltb, eqb}
 use lib.ListN.{length, take, drop}
 use lib.Seq.{take-append_seam}
@@ -39,16 +39,16 @@ module _ (toll : ℕ → ℕ) (k : ℕ) (trail list : List ℕ) (spent : ℕ) (t
       (ap₂ (λ x y. ltb x y || (eqb x y && smaller trail (take (length b) list))) cost limit ∙
       ap (λ l. ltb (price toll trail) (price toll b) || (eqb (price toll trail) (price toll b) && smaller trail l)) holds.1)
 
-  module _ (count : ℕ) (after : List ℕ) (r : Tally) (many : count ≡ length trail) (done : Kept trail list after count spent t r) where
+  module _ (after : List ℕ) (r : Tally) (done : Kept trail list after spent t r) where
     stored_new : improves trail list spent t ≡ true → Stored toll k (some trail) r after
     unfolding limit_of
     stored_new h =
-        let whole : after ≡ trail ++ drop count list = done.new_list ∙ pick_true _ _ h in
+        let whole : after ≡ trail ++ drop (length trail) list = done.new_list ∙ pick_true _ _ h in
         record {
           limit = done.new_limit ∙ pick_true _ _ h ∙ cost;
           kept = (
-            done.new_kept ∙ pick_true _ _ h ∙ ap Some many,
-            ap (take (length trail)) whole ∙ take-append_seam trail (drop count list),
+            done.new_kept ∙ pick_true _ _ h,
+            ap (take (length trail)) whole ∙ take-append_seam trail (drop (length trail) list),
           );
         }
 

@@ -5,7 +5,7 @@ use mathlib.Core.List.{List}
 use Prim.Native.Nat.{ℕ, ◌+◌, ◌≤◌, ◌<◌}
 use native.Mathlib.Omega.{arith}
 use lib.Dec.{ltb}
-use lib.ListN.{length, take}
+use lib.ListN.{length}
 use Rattle.bits.specs.Choice.{pick}
 use Rattle.graph.specs.declared.Quad.{Quad}
 use Rattle.std.specs.Prelude.{None, Some}
@@ -26,13 +26,13 @@ use Rattle.search.proofs.AtNode.{node_stopped, node_found, node_left, node_branc
 pub quad_inside : (n : ℕ) (words : List ℕ) (q : Quad) → first (quads n (word_edge words)) ≡ Some q → Named n (word_edge words) q
 quad_inside n words q h = listed_named n (word_edge words) q (first_listed n (word_edge words) q h)
 
-pub untouched : (words cost path : List ℕ) (count : ℕ) → Back words cost path count words cost path
-untouched words cost path count = record { words_back = refl; cost_back = refl; path_back = refl }
+pub untouched : (words cost path : List ℕ) → Back words cost path words cost path
+untouched words cost path = record { words_back = refl; cost_back = refl; path_back = refl }
 
 module _
-    {n most : ℕ} {words cost path kept : List ℕ} {count spent : ℕ} {t here : Tally}
+    {n most : ℕ} {words cost path kept : List ℕ} {spent : ℕ} {t here : Tally}
     (prune : Bool)
-    (ready : Ready n most words cost path kept count spent t)
+    (ready : Ready n most words cost path kept spent t)
     (running : t.steps ≤ most)
     (step : Entered t here)
   where
@@ -44,14 +44,11 @@ module _
           listed = rw step.held ready.sound.listed;
         }
 
-    pub ready_here : Ready n most words cost path kept count spent here
+    pub ready_here : Ready n most words cost path kept spent here
     ready_here = record { safe = ready.safe; sound = sound_here; large = ready.large }
 
-    -- the path and the kept list have room
-    pub path_room : count ≤ length path
-    path_room = omega (arith, ready.safe.room, ready.safe.long, pairs_small n ready.safe.few)
-
-    pub kept_room : count ≤ length kept
+    -- the kept list has room
+    pub kept_room : length path ≤ length kept
     kept_room = omega (arith, ready.safe.room, ready.safe.wide, pairs_small n ready.safe.few)
 
     pub kept_fits : Within here.kept (length kept)
@@ -59,20 +56,20 @@ module _
 
     pub end_stopped :
         most < here.steps →
-        NodeLeft n prune most words cost path kept count spent t here words cost path kept
+        NodeLeft n prune most words cost path kept spent t here words cost path kept
     end_stopped over =
         record {
-          back = untouched words cost path count;
+          back = untouched words cost path;
           sound = sound_here;
           walked = λ e toll k f s o at fuel same. node_stopped prune at same step f fuel over;
         }
 
     module _ (l : here.steps ≤ most) where
-      sound_kept : (after : List ℕ) (r : Tally) → Kept (take count path) kept after count spent here r → Sound n most r
-      sound_kept after r keep = go (improves (take count path) kept spent here) keep.new_limit keep.new_kept
+      sound_kept : (after : List ℕ) (r : Tally) → Kept path kept after spent here r → Sound n most r
+      sound_kept after r keep = go (improves path kept spent here) keep.new_limit keep.new_kept
         where
           go :
-              (b : Bool) → r.limit ≡ pick b spent here.limit → r.kept ≡ pick b (Some count) here.kept → Sound n most r
+              (b : Bool) → r.limit ≡ pick b spent here.limit → r.kept ≡ pick b (Some (length path)) here.kept → Sound n most r
           go true a b =
               record {
                 counted = omega (arith, keep.same_steps);
@@ -88,13 +85,13 @@ module _
 
       pub end_found :
           (after : List ℕ) (r : Tally) → first (quads n (word_edge words)) ≡ None →
-          Kept (take count path) kept after count spent here r →
-          NodeLeft n prune most words cost path kept count spent t r words cost path after
+          Kept path kept after spent here r →
+          NodeLeft n prune most words cost path kept spent t r words cost path after
       end_found after r clear keep =
           record {
-            back = untouched words cost path count;
+            back = untouched words cost path;
             sound = sound_kept after r keep;
-            walked = λ e toll k f s o at fuel same. node_found prune at same step l f r after fuel path_room clear keep;
+            walked = λ e toll k f s o at fuel same. node_found prune at same step l f r after fuel clear keep;
           }
 
       module _ (q : Quad) (quad : first (quads n (word_edge words)) ≡ Some q) where
@@ -102,10 +99,10 @@ module _
         leaves = prune && ltb here.limit (spent + packing n (free_at n cost) (toll_at n cost) (quads n (word_edge words)))
 
         pub end_left :
-            leaves ≡ true → NodeLeft n prune most words cost path kept count spent t here words cost path kept
+            leaves ≡ true → NodeLeft n prune most words cost path kept spent t here words cost path kept
         end_left h =
             record {
-              back = untouched words cost path count;
+              back = untouched words cost path;
               sound = sound_here;
               walked = λ e toll k f s o at fuel same. node_left prune at same step l q quad f fuel h;
             }
@@ -116,8 +113,8 @@ module _
 
         pub end_ways :
             (places : List ℕ) (r : Tally) (words' cost' path' kept' : List ℕ) → leaves ≡ false → places ≡ pairs_of 128 q →
-            WaysLeft n prune most words cost path kept count spent places here r words' cost' path' kept' →
-            NodeLeft n prune most words cost path kept count spent t r words' cost' path' kept'
+            WaysLeft n prune most words cost path kept spent places here r words' cost' path' kept' →
+            NodeLeft n prune most words cost path kept spent t r words' cost' path' kept'
         end_ways places r words' cost' path' kept' h is did =
             record {
               back = did.back;

@@ -62,25 +62,23 @@ within_more (Some pairs) h l = omega arith
 pub within_as : (a : ℕ) {o p : Option ℕ} → o ≡ p → Within p a → Within o a
 within_as a e h = rw e h
 
-module _ {n : ℕ} {words cost path kept : List ℕ} {count spent : ℕ} (safe : Safe n words cost path kept count spent) where
+module _ {n : ℕ} {words cost path kept : List ℕ} {spent : ℕ} (safe : Safe n words cost path kept spent) where
   -- other lists of the same lengths
   pub safe_lists :
-      (path' kept' : List ℕ) → length path' ≡ length path → length kept' ≡ length kept →
-      Safe n words cost path' kept' count spent
-  safe_lists path' kept' lp lk =
+      (kept' : List ℕ) → length kept' ≡ length kept → Safe n words cost path kept' spent
+  safe_lists kept' lk =
       record {
         few = safe.few;
         shape = safe.shape;
         graph = safe.graph;
         table = safe.table;
         placed = safe.placed;
-        long = lp ∙ safe.long;
         wide = lk ∙ safe.wide;
         room = safe.room;
         paid = safe.paid;
       }
 
-  pub safe_mark : (p : ℕ) → p < 16384 → Safe n words (set cost p fixed) path kept count spent
+  pub safe_mark : (p : ℕ) → p < 16384 → Safe n words (set cost p fixed) path kept spent
   safe_mark p l =
       record {
         few = safe.few;
@@ -88,21 +86,20 @@ module _ {n : ℕ} {words cost path kept : List ℕ} {count spent : ℕ} (safe :
         graph = safe.graph;
         table = length-set cost p fixed ∙ safe.table;
         placed = λ i fits costs. safe.placed i fits (marked_before n cost p safe.table l i costs);
-        long = safe.long;
         wide = safe.wide;
         room = omega (arith, safe.room, open_less n cost p safe.table l);
         paid = safe.paid;
       }
 
   -- where a pair is free there is room for it
-  pub safe_room : (p : ℕ) → p < 16384 → get_or cost p 0 < fixed → count < 8128
+  pub safe_room : (p : ℕ) → p < 16384 → get_or cost p 0 < fixed → length path < 8128
   safe_room p l costs =
       omega (arith, safe.room, open_falls n cost p safe.table l safe.few (safe.placed p l costs) costs, pairs_small n safe.few)
 
   pub safe_enter :
       (p : ℕ) (words' path' : List ℕ) → p < 16384 → Place n p → get_or cost p 0 < fixed → spent + get_or cost p 0 ≤ budget →
-      Toggled (p / 128) (p % 128) words words' → length path' ≡ length path →
-      Safe n words' (set cost p fixed) path' kept (count + 1) (spent + get_or cost p 0)
+      Toggled (p / 128) (p % 128) words words' → length path' ≡ length path + 1 →
+      Safe n words' (set cost p fixed) path' kept (spent + get_or cost p 0)
   safe_enter p words' path' l at costs paid toggled lp =
       record {
         few = safe.few;
@@ -110,8 +107,7 @@ module _ {n : ℕ} {words cost path kept : List ℕ} {count spent : ℕ} (safe :
         graph = rw toggled.edges (flipped_graph (p / 128) (p % 128) (word_edge words) n safe.graph (omega (arith, at.apart, at.inside)) at.inside (omega (arith, at.apart)));
         table = length-set cost p fixed ∙ safe.table;
         placed = λ i fits h. safe.placed i fits (marked_before n cost p safe.table l i h);
-        long = lp ∙ safe.long;
         wide = safe.wide;
-        room = omega (arith, safe.room, open_falls n cost p safe.table l safe.few at costs);
+        room = omega (arith, safe.room, lp, open_falls n cost p safe.table l safe.few at costs);
         paid = paid;
       }

@@ -1,6 +1,6 @@
 -- The memory at the start stands for the root: the words of the graph, the table of the prices, and empty lists.
 -- Assumes nothing.
-use mathlib.Core.Path.{◌≡◌, refl, sym, ◌∙◌, fun_ext}
+use mathlib.Core.Path.{◌≡◌, refl, sym, ap, ◌∙◌, fun_ext}
 use mathlib.Core.Logic.{◌⊎◌, inl, inr}
 use mathlib.Core.Bool.{Bool, true, false, ◌&&◌}
 use mathlib.Core.List.{List, []}
@@ -98,13 +98,13 @@ module _
     (given : Engaged n rows ps k list)
     (flat : Flat rows words)
     (made : Costs n ps cost)
-    (long : length path ≡ 8128)
+    (empty : path ≡ [])
     (wide : length kept ≡ 8128)
   where
     graph_words : IsGraph n (word_edge words)
     graph_words = rw flat.edges given.graph
 
-    pub ready_root : (most : ℕ) → most < 4294967296 → Ready n most words cost path kept 0 0 (start k)
+    pub ready_root : (most : ℕ) → most < 4294967296 → Ready n most words cost path kept 0 (start k)
     ready_root most large =
         record {
           safe =
@@ -114,9 +114,8 @@ module _
                 graph = graph_words;
                 table = made.many;
                 placed = table_placed n ps cost given.few made;
-                long = long;
                 wide = wide;
-                room = omega (arith, open_room n ps cost given.few made);
+                room = omega (arith, ap length empty, open_room n ps cost given.few made);
                 paid = omega arith;
               };
           sound =
@@ -128,13 +127,13 @@ module _
           large = large;
         }
 
-    pub at_root : At n (row_edge rows) (toll_of ps) root words cost path 0 0
+    pub at_root : At n (row_edge rows) (toll_of ps) root words cost path 0
     at_root =
         record {
           edges = flat.edges ∙ sym (unfold present in toggled_none n (row_edge rows));
           opens = open_root n ps cost given.few made given.priced;
           tolls = toll_root n ps cost given.few made given.priced;
-          trail = refl;
+          trail = empty;
           price = unfold price in refl;
           held = λ x m. absurd (member_none x m);
         }
@@ -146,7 +145,7 @@ module _
     -- the whole tree is walked from there
     pub followed :
         (prune : Bool) (most : ℕ) (r : Tally) (words' cost' path' kept' : List ℕ) →
-        NodeLeft n prune most words cost path kept 0 0 (start k) r words' cost' path' kept' →
+        NodeLeft n prune most words cost path kept 0 (start k) r words' cost' path' kept' →
         Follows (toll_of ps) k most (searched n (row_edge rows) (toll_of ps) prune k most) r kept'
     followed prune most r words' cost' path' kept' did =
         unfold searched in

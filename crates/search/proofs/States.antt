@@ -59,8 +59,8 @@ module _ (n : ℕ) (cost : List ℕ) (p : ℕ) (few : n ≤ 128) (at : Place n p
   toll_other x other = get_or-set_other cost p (index n x) fixed 0 (index_apart n p few at x other)
 
 module _
-    {n : ℕ} {e : ℕ → ℕ → Bool} {toll : ℕ → ℕ} {s : Node} {words cost path : List ℕ} {count spent : ℕ}
-    (h : At n e toll s words cost path count spent) (p : ℕ) (few : n ≤ 128) (at : Place n p) (fits : p < length cost)
+    {n : ℕ} {e : ℕ → ℕ → Bool} {toll : ℕ → ℕ} {s : Node} {words cost path : List ℕ} {spent : ℕ}
+    (h : At n e toll s words cost path spent) (p : ℕ) (few : n ≤ 128) (at : Place n p) (fits : p < length cost)
   where
     abbrev x : ℕ
     x = number_at n p
@@ -94,7 +94,7 @@ module _
         go (inl q) = never (ap (free n toll (mark s x)) (sym q) ∙ f) (mark_shut n toll s x)
         go (inr q) = toll_other n cost p few at fits y q ∙ h.tolls y (sym (mark_open n toll s x y q) ∙ f)
 
-    pub at_mark : At n e toll (mark s x) words (set cost p fixed) path count spent
+    pub at_mark : At n e toll (mark s x) words (set cost p fixed) path spent
     unfolding mark present
     at_mark =
         record {
@@ -108,7 +108,7 @@ module _
 
     pub at_add :
         (words' path' : List ℕ) (r : ℕ) → free n toll s x ≡ true → Toggled (p / 128) (p % 128) words words' →
-        Put count x path path' r → At n e toll (add s x) words' (set cost p fixed) path' (count + 1) (spent + get_or cost p 0)
+        Put x path path' r → At n e toll (add s x) words' (set cost p fixed) path' (spent + get_or cost p 0)
     at_add words' path' r f toggled-words put =
         record {
           edges =

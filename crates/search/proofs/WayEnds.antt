@@ -5,8 +5,9 @@ use mathlib.Core.List.{List}
 use Prim.Native.Nat.{ℕ, ◌+◌, ◌/◌, ◌%◌, ◌≤◌, ◌<◌}
 use native.Mathlib.Omega.{arith}
 use borrow.Author.Tests.{lt-ltb}
-use lib.ListN.{length, get_or, take, set}
-use lib.Seq.{length-take-le}
+use lib.ListN.{length, get_or, take, drop, set}
+use Rattle.std.proofs.Common.{length-append, length-take-le, ◌∷◌}
+use Rattle.std.proofs.lemmas.List.{length-drop}
 use Rattle.graph.specs.Price.{fixed}
 use Rattle.graph.specs.Rows.{Toggled}
 use Rattle.graph.proofs.WordLaws.{toggle_toggle}
@@ -23,22 +24,27 @@ use Rattle.search.proofs.Safety.{safe_enter, safe_room, open_falls}
 use Rattle.search.proofs.States.{at_free, at_add}
 use Rattle.search.proofs.AtWay.{enters, Opened, opened, way_shut, way_open}
 
+-- a pair more stands on the path
+pub longer : (x r : ℕ) (before after : List ℕ) → Put x before after r → length after ≡ length before + 1
+longer x r before after put =
+    omega (arith, ap length put.opened, length-append (take r before) (x ∷ drop r before), length-take-le r before put.inside, length-drop r before)
+
 -- what is known of a way at which the pair at p is marked
-pub record Marking (s : Search) (m : Room) (count spent p : ℕ) (t : Tally) (cost' : List ℕ) (price : ℕ) : Type 0 where
-  pub ready : IsReady s m count spent t
+pub record Marking (s : Search) (m : Room) (spent p : ℕ) (t : Tally) (cost' : List ℕ) (price : ℕ) : Type 0 where
+  pub ready : IsReady s m spent t
   pub fits : p < 16384
   pub place : Place s.n p
   pub marked : Marked p m.cost cost' price
 
 pub marking :
-    (s : Search) (m : Room) {count spent p : ℕ} {t : Tally} {cost' : List ℕ} {price : ℕ} →
-    IsReady s m count spent t → (p < 16384) × Place s.n p → Marked p m.cost cost' price →
-    Marking s m count spent p t cost' price
+    (s : Search) (m : Room) {spent p : ℕ} {t : Tally} {cost' : List ℕ} {price : ℕ} →
+    IsReady s m spent t → (p < 16384) × Place s.n p → Marked p m.cost cost' price →
+    Marking s m spent p t cost' price
 marking s m ready bound marked = record { ready = ready; fits = bound.0; place = bound.1; marked = marked }
 
 module _
-    {s : Search} {m : Room} {count spent p : ℕ} {t : Tally} {cost' : List ℕ} {price : ℕ}
-    (go : Marking s m count spent p t cost' price)
+    {s : Search} {m : Room} {spent p : ℕ} {t : Tally} {cost' : List ℕ} {price : ℕ}
+    (go : Marking s m spent p t cost' price)
   where
     inside : p < length m.cost
     inside = omega (arith, go.ready.safe.table)
@@ -49,7 +55,7 @@ module _
 
     pub end_shut :
         enters s.most price spent t ≡ false →
-        WayLeft s.n s.prune s.most m.words m.cost m.path m.kept count spent p t t m.words cost' m.path m.kept
+        WayLeft s.n s.prune s.most m.words m.cost m.path m.kept spent p t t m.words cost' m.path m.kept
     end_shut shut =
         record {
           back = record { words_back = refl; cost_back = go.marked.stored; path_back = refl };
@@ -65,7 +71,7 @@ module _
       pub goes_on : t.steps ≤ s.most
       goes_on = is.running
 
-      pub path_open : count < 8128
+      pub path_open : length m.path < 8128
       path_open = safe_room go.ready.safe p go.fits is.costs
 
       pub fewer_open : open_pairs s.n cost' < open_pairs s.n m.cost
@@ -73,7 +79,7 @@ module _
 
       pub ready_node :
           (due : ℕ) (words₁ path₁ : List ℕ) → due ≡ spent + price → Toggled (p / 128) (p % 128) m.words words₁ →
-          length path₁ ≡ length m.path → Ready s.n s.most words₁ cost' path₁ m.kept (count + 1) due t
+          length path₁ ≡ length m.path + 1 → Ready s.n s.most words₁ cost' path₁ m.kept due t
       ready_node due words₁ path₁ owed toggled long =
           rw (owed, go.marked.stored, go.marked.told)
           (record {
@@ -88,13 +94,13 @@ module _
           (words₁ path₁ words₂ cost₂ path₂ kept₂ words₃ path₃ : List ℕ) (at due : ℕ) (r : Tally)
           (owed : due ≡ spent + price)
           (toggled : Toggled (p / 128) (p % 128) m.words words₁)
-          (put : Put count (number_at s.n p) m.path path₁ at)
-          (did : NodeLeft s.n s.prune s.most words₁ cost' path₁ m.kept (count + 1) due t r words₂ cost₂ path₂ kept₂)
+          (put : Put (number_at s.n p) m.path path₁ at)
+          (did : NodeLeft s.n s.prune s.most words₁ cost' path₁ m.kept due t r words₂ cost₂ path₂ kept₂)
           (untoggled : Toggled (p / 128) (p % 128) words₂ words₃)
-          (closed : Closed count at path₂ path₃)
+          (closed : Closed at path₂ path₃)
         where
           -- the pair is toggled back and taken out of the path
-          restored : Back m.words (set m.cost p fixed) m.path count words₃ cost₂ path₃
+          restored : Back m.words (set m.cost p fixed) m.path words₃ cost₂ path₃
           restored =
               record {
                 words_back =
@@ -102,20 +108,18 @@ module _
                     (subst (λ ws. Toggled (p / 128) (p % 128) ws words₃) did.back.words_back untoggled);
                 cost_back = did.back.cost_back ∙ go.marked.stored;
                 path_back =
-                    closed (number_at s.n p) (take count m.path)
-                    (length-take-le count m.path (omega (arith, path_open, go.ready.safe.long)))
-                    (did.back.path_back ∙ put.opened);
+                    closed (number_at s.n p) m.path put.inside (did.back.path_back ∙ put.opened);
               }
 
           -- the memory stands for the node below
           there :
-              (e : ℕ → ℕ → Bool) (toll : ℕ → ℕ) (b : Node) → At s.n e toll b m.words m.cost m.path count spent →
-              At s.n e toll (add b (number_at s.n p)) words₁ cost' path₁ (count + 1) due
+              (e : ℕ → ℕ → Bool) (toll : ℕ → ℕ) (b : Node) → At s.n e toll b m.words m.cost m.path spent →
+              At s.n e toll (add b (number_at s.n p)) words₁ cost' path₁ due
           there e toll b here =
               let free = at_free here p go.ready.safe.few go.place inside ∙ lt-ltb (get_or m.cost p 0) fixed is.costs in
               rw (owed, go.marked.stored, go.marked.told) (at_add here p go.ready.safe.few go.place inside words₁ path₁ at free toggled put)
 
-          pub end_entered : WayLeft s.n s.prune s.most m.words m.cost m.path m.kept count spent p t r words₃ cost₂ path₃ kept₂
+          pub end_entered : WayLeft s.n s.prune s.most m.words m.cost m.path m.kept spent p t r words₃ cost₂ path₃ kept₂
           end_entered =
               record {
                 back = restored;

@@ -26,15 +26,14 @@ unfoldable pub open_pairs : ℕ → List ℕ → ℕ
 open_pairs n cost = count (free_at n cost) (n * n)
 
 -- what every node's memory is: lengths, a graph, a table with free pairs of the n vertices alone, and room for them all
-pub record Safe (n : ℕ) (words cost path kept : List ℕ) (count spent : ℕ) : Type 0 where
+pub record Safe (n : ℕ) (words cost path kept : List ℕ) (spent : ℕ) : Type 0 where
   pub few : n ≤ 128
   pub shape : AreWords words
   pub graph : IsGraph n (word_edge words)
   pub table : length cost ≡ 16384
   pub placed : (p : ℕ) → p < 16384 → get_or cost p 0 < fixed → Place n p
-  pub long : length path ≡ 8128
   pub wide : length kept ≡ 8128
-  pub room : count + open_pairs n cost ≤ pairs n
+  pub room : length path + open_pairs n cost ≤ pairs n
   pub paid : spent ≤ budget
 
 -- what every tally is
@@ -44,11 +43,11 @@ pub record Sound (n most : ℕ) (t : Tally) : Type 0 where
   pub listed : Within t.kept (pairs n)
 
 -- the memory stands for the node s of the tree of the graph e at the prices `toll`
-pub record At (n : ℕ) (e : ℕ → ℕ → Bool) (toll : ℕ → ℕ) (s : Node) (words cost path : List ℕ) (count spent : ℕ) : Type 0 where
+pub record At (n : ℕ) (e : ℕ → ℕ → Bool) (toll : ℕ → ℕ) (s : Node) (words cost path : List ℕ) (spent : ℕ) : Type 0 where
   pub edges : word_edge words ≡ present n e s
   pub opens : (x : ℕ) → is_pair n x ≡ true → free_at n cost x ≡ free n toll s x
   pub tolls : (x : ℕ) → free n toll s x ≡ true → toll_at n cost x ≡ toll x
-  pub trail : take count path ≡ s.path
+  pub trail : path ≡ s.path
   pub price : spent ≡ price toll s.path
   pub held : (x : ℕ) → member x s.path ≡ true → member x s.marks ≡ true
 

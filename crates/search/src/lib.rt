@@ -6,20 +6,22 @@ ghost use Rattle.graph.specs.Refusal.{first_of};
 ghost use Rattle.graph.specs.Graph.{row_edge};
 ghost use Rattle.repair.specs.Repair.{toll_of};
 ghost use Rattle.memory.specs.Tally.{Within};
-ghost use Rattle.search.specs.Memory.{pairs};
 ghost use Rattle.search.specs.Answer.{checks, Answered, Promise};
 ghost use Rattle.search.specs.Ends.{Told, Engaged};
 
 use graph::Refusal;
-use memory::{Tally, trail};
+use memory::Tally;
+use memory::trail::{self, Trail};
 use room::Room;
+use std::fmt;
 use tree::Search;
 
 pub mod room;
 pub mod tree;
 
 // What an engine answers to a call that passes the checks: 9, more nodes than the step limit; 8, no repair within the budget;
-// or the cheapest repair, whose pairs are the lent list's first entries.
+// or the cheapest repair, whose pairs are the lent list's first entries. 8 and 9 are answers with steps, not refusals:
+// document 01.
 #[derive(Clone, Copy, Debug, PartialEq, Eq)]
 pub enum Answer {
     Stopped {
@@ -35,12 +37,18 @@ pub enum Answer {
     },
 }
 
-// How many pairs n vertices have.
-fn pairs_of(n: usize) -> usize
-    requires { n ≤ 128 }
-    ensures { result ≡ pairs n }
-{
-    n * n.saturating_sub(1) / 2
+impl fmt::Display for Answer {
+    fn fmt<W: fmt::Write>(&self, f: &mut fmt::Formatter<W>) -> fmt::Result {
+        match self {
+            Answer::Stopped { steps } => write!(f, "answer 9 steps {steps}"),
+            Answer::Nothing { steps } => write!(f, "answer 8 steps {steps}"),
+            Answer::Repaired {
+                price,
+                pairs,
+                steps,
+            } => write!(f, "answer 0 cost {price} edits {pairs} steps {steps}"),
+        }
+    }
 }
 
 // The first refusal in the call's order whose row holds.
@@ -61,7 +69,7 @@ fn check(n: usize, graph: &[u8], prices: &[u16], k: u32, list: &[u16]) -> Result
     if 81280000 < k {
         return Err(Refusal::BudgetTooLarge);
     }
-    if list.len() < pairs_of(n) {
+    if list.len() < graph::pairs_of(n) {
         return Err(Refusal::NoRoom);
     }
     Ok(())
@@ -108,7 +116,7 @@ fn engine(
     let mut room = Room {
         words: graph::rows::flat_of(rows),
         cost: bound::prices::costs(n, prices),
-        path: [0u16; 8128],
+        path: Trail::over([0u16; 8128]),
         kept: [0u16; 8128],
     };
     let start = Tally {
@@ -116,7 +124,7 @@ fn engine(
         limit: k,
         kept: None,
     };
-    let t = search.node(&mut room, 0, 0, start);
+    let t = search.node(&mut room, 0, start);
     told(t, most, &room.kept, list)
 }
 
@@ -137,7 +145,7 @@ fn either(
     Ok(engine(rows, prices, n, prune, k, most, list))
 }
 
-// The plain engine: it leaves no node early.
+// The plain engine: it leaves no node early. Two entry points: README and docs/CONTRACTS.md name both.
 pub fn plain(
     n: usize,
     graph: &[u8],

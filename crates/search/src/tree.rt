@@ -6,7 +6,8 @@ ghost use Rattle.search.specs.Steps.{IsReady, Six, NodeDone, WaysDone, WayDone};
 use crate::room::Room;
 use memory::{Tally, leaf, table};
 
-// What stays the same at every node: the number of vertices, whether the engine prunes, and the step limit.
+// What stays the same at every node: the number of vertices, whether the engine prunes, and the step limit. `prune` is a word
+// and not a closure: Promise, engine and walked speak of both engines by it.
 #[derive(Clone, Copy)]
 pub struct Search {
     pub n: usize,
@@ -17,17 +18,17 @@ pub struct Search {
 impl Search {
     // Entering a node is one step. A node with no quad is a repair; else its ways are tried, unless the node is left.
     #[cycle(node_way_ways)]
-    pub fn node(&self, room: &mut Room, count: usize, spent: u32, t: Tally) -> Tally
-        requires ready { IsReady self.now room.old count spent t }
+    pub fn node(&self, room: &mut Room, spent: u32, t: Tally) -> Tally
+        requires ready { IsReady self.now room.old spent t }
         requires steps_le_most { t.steps ≤ self.now.most }
-        ensures { NodeDone self.now room.old count spent t result room.new }
+        ensures { NodeDone self.now room.old spent t result room.new }
     {
         let here = leaf::entered(t);
         if self.most < here.steps {
             return here;
         }
         match graph::seek::first_quad(&room.words, self.n) {
-            None => leaf::keep(&room.path, &mut room.kept, count, spent, here),
+            None => leaf::keep(&room.path, &mut room.kept, spent, here),
             Some(q) => {
                 if leaf::leaves(
                     &room.words,
@@ -39,22 +40,22 @@ impl Search {
                 ) {
                     return here;
                 }
-                self.ways(room, count, spent, table::places(q), here)
+                self.ways(room, spent, table::places(q), here)
             }
         }
     }
 
     // The six ways one after the other; then the marks made here go.
     #[cycle(node_way_ways)]
-    fn ways(&self, room: &mut Room, count: usize, spent: u32, places: [u16; 6], t: Tally) -> Tally
-        requires ready { IsReady self.now room.old count spent t }
+    fn ways(&self, room: &mut Room, spent: u32, places: [u16; 6], t: Tally) -> Tally
+        requires ready { IsReady self.now room.old spent t }
         requires six { Six self.now.n places }
-        ensures { WaysDone self.now room.old count spent places t result room.new }
+        ensures { WaysDone self.now room.old spent places t result room.new }
     {
         let old = table::costs(&room.cost, places);
         let mut tally = t;
         for p in places {
-            tally = self.way(room, count, spent, p as usize, tally);
+            tally = self.way(room, spent, p as usize, tally);
         }
         table::restore(&mut room.cost, places, old);
         tally
@@ -62,18 +63,18 @@ impl Search {
 
     // The pair at p is marked; if it is entered it is toggled, that node searched, and toggled back.
     #[cycle(node_way_ways)]
-    fn way(&self, room: &mut Room, count: usize, spent: u32, p: usize, t: Tally) -> Tally
-        requires ready { IsReady self.now room.old count spent t }
+    fn way(&self, room: &mut Room, spent: u32, p: usize, t: Tally) -> Tally
+        requires ready { IsReady self.now room.old spent t }
         requires p_bound { (p < 16384) × Place self.now.n p }
-        ensures { WayDone self.now room.old count spent p t result room.new }
+        ensures { WayDone self.now room.old spent p t result room.new }
     {
         let price = table::mark(&mut room.cost, p);
         if !leaf::opens(price, spent, self.most, t) {
             return t;
         }
-        let at = leaf::enter(&mut room.words, &mut room.path, count, self.n, p);
-        let after = self.node(room, count + 1, leaf::paid(spent, price), t);
-        leaf::leave(&mut room.words, &mut room.path, count, self.n, p, at);
+        let at = leaf::enter(&mut room.words, &mut room.path, self.n, p);
+        let after = self.node(room, leaf::paid(spent, price), t);
+        leaf::leave(&mut room.words, &mut room.path, self.n, p, at);
         after
     }
 }

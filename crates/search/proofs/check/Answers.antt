@@ -1,5 +1,6 @@
 -- `search::check` meets its contract: the checks in their order, or none finds anything. Assumes nothing.
 use Rattle.std.proofs.Common.{rules, ◌≡◌, Err, sym, ◌∙◌, arith}
+use Rattle.search.specs.Memory.{pairs}
 use Rattle.search.proofs.Refusing.{many_refused, graph_refused, prices_refused, entries_refused, priced_refused, large_refused, short_refused, all_pass}
 use Rattle.search.proofs.check.Goals as goal
 
@@ -31,12 +32,14 @@ returns-then-k-gt81280000 c =
     (sym c.entries_of.ensures ∙ c.in_ok-entries_of.was) (sym c.price_entries.ensures ∙ c.in_ok-price_entries.was) c.if-k-gt81280000.true
 
 pub returns-then-list-pairs_of : goal.returns-then-list-pairs_of
+unfolding pairs
 returns-then-list-pairs_of c =
     short_refused _ _ _ _ _ c.if-n-gt128.false c.if-graph-n.false c.if-prices-n.false
     (sym c.entries_of.ensures ∙ c.in_ok-entries_of.was) (sym c.price_entries.ensures ∙ c.in_ok-price_entries.was) c.if-k-gt81280000.false
     (omega (arith, c.pairs_of.ensures, c.if-list-pairs_of.true))
 
 pub returns : goal.returns
+unfolding pairs
 returns c =
     all_pass _ _ _ _ _ c.if-n-gt128.false c.if-graph-n.false c.if-prices-n.false
     (sym c.entries_of.ensures ∙ c.in_ok-entries_of.was) (sym c.price_entries.ensures ∙ c.in_ok-price_entries.was) c.if-k-gt81280000.false

@@ -13,7 +13,7 @@ use Rattle.search.proofs.engine.Goals as goal
 pub node-t-requires : goal.node-t-requires
 node-t-requires c =
     record {
-      ready = ready_root _ _ c.requires c.flat_of.ensures c.costs.ensures refl refl c.args.most (omega (arith, c.ranges.most));
+      ready = ready_root _ _ c.requires c.flat_of.ensures c.costs.ensures c.over.ensures refl c.args.most (omega (arith, c.ranges.most));
       steps_le_most = omega arith;
     }
 
@@ -21,7 +21,7 @@ pub told-requires : goal.told-requires
 told-requires c =
     let d = c.node-t in
     let small = pairs_small c.args.n c.requires.few in
-    (within_more d.result.kept d.ensures.sound.listed (omega (arith, d.auto, small)), within_more d.result.kept d.ensures.sound.listed c.requires.room)
+    (within_more d.result.kept d.ensures.sound.listed (omega (arith, small)), within_more d.result.kept d.ensures.sound.listed c.requires.room)
 
 pub returns : goal.returns
 returns c =
@@ -29,4 +29,4 @@ returns c =
     let told = c.told in
     meant c.args.prune c.args.n (row_edge c.args.rows) (toll_of c.args.prices.now) c.args.k c.args.most d.new.room.kept c.args.list.now d.result
     c.requires.graph (tolls_positive c.args.n c.args.prices.now c.requires.priced)
-    (followed _ _ c.requires c.flat_of.ensures c.costs.ensures refl refl c.args.prune c.args.most d.result d.new.room.words d.new.room.cost d.new.room.path d.new.room.kept d.ensures) told.result told.new.list told.ensures
+    (followed _ _ c.requires c.flat_of.ensures c.costs.ensures c.over.ensures refl c.args.prune c.args.most d.result d.new.room.words d.new.room.cost d.new.room.path d.new.room.kept d.ensures) told.result told.new.list told.ensures

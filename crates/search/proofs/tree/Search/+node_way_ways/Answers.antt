@@ -3,7 +3,6 @@
 use Rattle.search.proofs.NodeEnds.{
   quad_inside,
   ready_here,
-  path_room,
   kept_room,
   kept_fits,
   end_stopped,
@@ -12,9 +11,10 @@ use Rattle.search.proofs.NodeEnds.{
   six_places,
   end_ways,
 }
-use Rattle.search.proofs.WayEnds.{marking, end_shut, goes_on, path_open, fewer_open, ready_node, end_entered}
+use Rattle.search.proofs.WayEnds.{marking, end_shut, goes_on, longer, path_open, fewer_open, ready_node, end_entered}
 use Rattle.search.proofs.WaysEnds.{trying_none, trying_more, trying_end}
-use mathlib.Core.Path.{sym, ◌∙◌}
+use mathlib.Core.Path.{sym, ap, ◌∙◌}
+use lib.ListN.{length}
 use native.Mathlib.Omega.{arith}
 use Rattle.search.proofs.tree.Search.+node_way_ways.Goals as goal
 
@@ -26,7 +26,7 @@ pub node-keep-requires : goal.node-keep-requires
 node-keep-requires t c =
     let r = c.requires.ready in
     let step = c.entered-here.ensures in
-    (path_room c.args.self.now.prune r c.requires.steps_le_most step, kept_room c.args.self.now.prune r c.requires.steps_le_most step, kept_fits c.args.self.now.prune r c.requires.steps_le_most step)
+    (kept_room c.args.self.now.prune r c.requires.steps_le_most step, kept_fits c.args.self.now.prune r c.requires.steps_le_most step)
 
 pub node-returns-then-leaves : goal.node-returns-then-leaves
 node-returns-then-leaves t c =
@@ -74,7 +74,7 @@ way-enter-at-requires t c =
     let on = sym c.opens.ensures ∙ c.if-not-opens.false in
     let safe = c.requires.ready.safe in
     record {
-      words_len = (safe.shape.many, safe.long, path_open go on, safe.few, c.requires.p_bound.0);
+      words_len = (safe.shape.many, path_open go on, safe.few, c.requires.p_bound.0);
       place = c.requires.p_bound.1;
     }
 
@@ -85,7 +85,7 @@ way-node-after-requires t c =
     let e = c.enter-at in (
       omega (arith, fewer_open go on),
       (
-        ready_node go on c.paid.result e.new.words e.new.path c.paid.ensures e.ensures.toggled e.auto.path,
+        ready_node go on c.paid.result e.new.words e.new.path c.paid.ensures e.ensures.toggled (longer _ _ _ _ e.ensures.put),
         goes_on go on,
       ),
     )
@@ -99,13 +99,11 @@ way-leave-requires t c =
     record {
       words_len = (
         omega arith,
-        omega arith,
-        path_open go on,
         safe.few,
         c.requires.p_bound.0,
       );
       place = c.requires.p_bound.1;
-      at_le_count = e.ensures.put.inside;
+      at_inside = omega (arith, e.ensures.put.inside, longer _ _ _ _ e.ensures.put, ap length c.node-after.ensures.back.path_back);
     }
 
 pub way-returns : goal.way-returns
@@ -129,7 +127,7 @@ ways-loop-p-preserved t c =
     let so = c.loop-p.invariant in
     let w = c.way-tally in
     trying_more c.requires.ready c.requires.six so w.new.room.words w.new.room.cost w.new.room.path w.new.room.kept w.result
-    c.loop-p-test.true (w.new.room.path_len ∙ sym so.ready.safe.long) (w.new.room.kept_len ∙ sym so.ready.safe.wide) w.ensures
+    c.loop-p-test.true (w.new.room.kept_len ∙ sym so.ready.safe.wide) w.ensures
 
 pub ways-returns : goal.ways-returns
 ways-returns t c =

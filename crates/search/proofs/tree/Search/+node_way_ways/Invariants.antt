@@ -7,7 +7,7 @@ abbrev pub invariant-ways-loop-p : goal.invariant-ways-loop-p
 invariant-ways-loop-p l =
     let m = l.initial.room in
     let m' = l.room in
-    Trying l.self.n l.self.prune l.self.most m.words m.cost m.path m.kept l.count l.spent l.places l.initial.tally m'.words m'.cost m'.path m'.kept l.tally l.p-index
+    Trying l.self.n l.self.prune l.self.most m.words m.cost m.path m.kept l.spent l.places l.initial.tally m'.words m'.cost m'.path m'.kept l.tally l.p-index
 
 abbrev pub decreases-node : goal.decreases-node
 decreases-node l =
