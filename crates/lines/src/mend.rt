@@ -33,6 +33,6 @@ pub fn mend(graph: &mut [u8], n: usize, repair: &[u16])
     ensures { graph.new ≡ drawn_of n (toggled n (edge n graph.old) repair.now) }
 {
     for x in repair {
-        toggle(graph, n, *x as usize);
+        toggle(graph, n, usize::from(*x));
     }
 }

@@ -14,11 +14,8 @@ fn change(page: &mut Page, n: usize, graph: &[u8], x: usize)
 {
     let i = x / n;
     let j = x % n;
-    if graph[x] == 1 {
-        page.two(b"cut ", i, b" ", j);
-        return;
-    }
-    page.two(b"join ", i, b" ", j);
+    let word: &[u8] = if graph[x] == 1 { b"cut " } else { b"join " };
+    page.two(word, i, b" ", j);
 }
 
 // A line for each changed pair.
@@ -29,22 +26,22 @@ pub fn changes(page: &mut Page, n: usize, graph: &[u8], repair: &[u16])
     ensures { page.new ≡ page.old ++ change_lines n (edge n graph.now) repair.now }
 {
     for x in repair {
-        change(page, n, graph, *x as usize);
+        change(page, n, graph, usize::from(*x));
     }
 }
 
-// `parent V P`, or `parent V -` where there is none, which document 01 writes as 65,535 in the list.
+// `parent V P`, or `parent V -` where there is none.
 #[tactic(auto, unfolding(crate::specs::Lines::parent_line))]
 fn parent(page: &mut Page, v: usize, p: u16)
     requires { length page.old + length (parent_line v p) ≤ ROOM }
     ensures { page.new ≡ page.old ++ parent_line v p }
 {
-    if p == 65535 {
+    if p == forest::NOBODY {
         page.said(b"parent ", v);
         page.put(b" -\n");
         return;
     }
-    page.two(b"parent ", v, b" ", p as usize);
+    page.two(b"parent ", v, b" ", usize::from(p));
 }
 
 // A line for each vertex.

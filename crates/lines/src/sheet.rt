@@ -3,7 +3,7 @@ ghost use Rattle.std.specs.Prelude.{◌≡◌, true, [], ◌++◌, ◌+◌, ◌*
 ghost use Rattle.graph.specs.Graph.{edge, IsGraph};
 ghost use Rattle.graph.specs.Check.{entries};
 ghost use Rattle.graph.specs.Quad.{Clean};
-ghost use Rattle.graph.specs.Refusal.{refusal, number_of, row_of, column_of};
+ghost use Rattle.graph.specs.Refusal.{number, row_at, column_at};
 ghost use Rattle.repair.specs.Pair.{is_pair, all, ascending};
 ghost use Rattle.repair.specs.Repair.{toggled, toll_of};
 ghost use Rattle.scores.specs.Scale.{half, on_scale, scores_off, edge_byte, price_entry, square};
@@ -37,17 +37,6 @@ fn trees(page: &mut Page, n: usize, graph: &[u8])
     }
 }
 
-// The first lines, up to those of the changed pairs.
-fn edited(page: &mut Page, n: usize, graph: &[u8], repair: &[u16], cost: usize, steps: usize)
-    requires graph_len { length graph.now ≡ n * n }
-    requires repair_value { all (is_pair n) repair.now ≡ true }
-    requires repair_in_bounds { length page.old + length (first_lines n (edge n graph.now) repair.now cost steps) ≤ ROOM }
-    ensures { page.new ≡ page.old ++ first_lines n (edge n graph.now) repair.now cost steps }
-{
-    page::head(page, n, cost, repair.len(), steps);
-    page::changes(page, n, graph, repair);
-}
-
 // All lines of a repair.
 fn mended(page: &mut Page, n: usize, graph: &mut [u8], repair: &[u16], cost: usize, steps: usize)
     requires n_bound { (n ≤ 128) × (graph.old ≡ drawn_of n (edge n graph.old)) × IsGraph n (edge n graph.old) }
@@ -55,7 +44,8 @@ fn mended(page: &mut Page, n: usize, graph: &mut [u8], repair: &[u16], cost: usi
     requires repair_in_bounds { length page.old + length (repair_lines n (edge n graph.old) repair.now cost steps) ≤ ROOM }
     ensures { page.new ≡ page.old ++ repair_lines n (edge n graph.old) repair.now cost steps }
 {
-    edited(page, n, graph, repair, cost, steps);
+    page::head(page, n, cost, repair.len(), steps);
+    page::changes(page, n, graph, repair);
     mend::mend(graph, n, repair);
     trees(page, n, graph);
 }
@@ -125,13 +115,10 @@ fn listed(page: &mut Page, n: usize, t: i16, list: &[i16])
 }
 
 // The line of what the reader refuses.
-fn refused(page: &mut Page, read: Result<Trailer, Refusal>)
+fn refused(page: &mut Page, refusal: Refusal)
     requires { page.old ≡ [] }
-    ensures { page.new ≡ refusal_line (number_of (refusal read)) (row_of (refusal read)) (column_of (refusal read)) }
+    ensures { page.new ≡ refusal_line (number refusal) (row_at refusal) (column_at refusal) }
 {
-    let Err(refusal) = read else {
-        return page.three(b"answer ", 0, b" place ", 0, b" ", 0);
-    };
     let (row, column) = refusal.place();
     page.three(
         b"answer ",
@@ -149,12 +136,12 @@ pub fn lines_of(sheet: &[u8], page: &mut Page)
     ensures { Lines sheet.now page.new }
 {
     if 49032 < sheet.len() {
-        return refused(page, Err(Refusal::BadSheet));
+        return refused(page, Refusal::BadSheet);
     }
     let mut list = [0i16; 8128];
     let read = scores::read(sheet, &mut list);
     let Ok(Trailer { n, t, .. }) = read else {
-        return refused(page, read);
+        return refused(page, read.unwrap_err());
     };
     listed(page, n, t, &list);
 }
