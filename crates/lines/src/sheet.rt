@@ -103,7 +103,7 @@ fn listed(page: &mut Page, n: usize, t: i16, list: &[i16])
     let mut graph = [0u8; 16384];
     let mut prices = [0u16; 16384];
     let entries = n * n;
-    let pairs = (entries - n) / 2;
+    let pairs = graph::pairs_of(n);
     drawn(
         page,
         n,
