@@ -19,6 +19,7 @@ fn toggle(graph: &mut [u8], n: usize, x: usize)
     requires graph_len { length graph.old ≡ n * n }
     ensures { graph.new ≡ turned (turned graph.old x) (x % n * n + x / n) }
 {
+    // Document 01's number of a pair is i x n + j.
     let i = x / n;
     let j = x % n;
     turn(graph, x);

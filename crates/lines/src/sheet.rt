@@ -1,4 +1,6 @@
 // The lines of a sheet: what the reader refuses, the search, the repair and its forest.
+// n and the lent bytes stay two parameters, as `to_graph`, `pruned` and `forest` take them: a struct would be taken apart
+// at each of these calls. `as usize` widens a u32: usize has no From<u32>.
 ghost use Rattle.std.specs.Prelude.{◌≡◌, true, [], ◌++◌, ◌+◌, ◌*◌, ◌≤◌, ◌<◌, length, take, ℤ};
 ghost use Rattle.graph.specs.Graph.{edge, IsGraph};
 ghost use Rattle.graph.specs.Check.{entries};
@@ -11,8 +13,8 @@ ghost use Rattle.lines.specs.Lines.{refusal_line, tree_lines};
 ghost use Rattle.lines.specs.Inner.{drawn_of, first_lines, repair_lines, Checked, Ready};
 ghost use Rattle.lines.specs.Report.{Searched, Lines};
 
-use crate::text::{Page, ROOM};
-use crate::{mend, page};
+use crate::page::{Page, ROOM};
+use crate::{mend, repaired};
 use forest::Answer::{Forest, Spoiled};
 use graph::Refusal;
 use scores::Trailer;
@@ -28,7 +30,7 @@ fn trees(page: &mut Page, n: usize, graph: &[u8])
     let mut list = [0u16; 128];
     match forest::forest(n, graph, &mut list) {
         Ok(Forest { groups }) => {
-            page::parents(page, &list[..n]);
+            repaired::parents(page, &list[..n]);
             page.one(b"groups ", groups);
         }
         // The graph passes the checks and is clean.
@@ -44,8 +46,8 @@ fn mended(page: &mut Page, n: usize, graph: &mut [u8], repair: &[u16], cost: usi
     requires repair_in_bounds { length page.old + length (repair_lines n (edge n graph.old) repair.now cost steps) ≤ ROOM }
     ensures { page.new ≡ page.old ++ repair_lines n (edge n graph.old) repair.now cost steps }
 {
-    page::head(page, n, cost, repair.len(), steps);
-    page::changes(page, n, graph, repair);
+    repaired::head(page, n, cost, repair.len(), steps);
+    repaired::changes(page, n, graph, repair);
     mend::mend(graph, n, repair);
     trees(page, n, graph);
 }

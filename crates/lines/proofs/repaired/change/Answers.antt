@@ -1,8 +1,8 @@
 -- `change` meets its contract: the pair's own entry decides between the two words. Assumes nothing.
 use Rattle.lines.proofs.Behind.{room_as, put_as}
 use Rattle.lines.proofs.Changing.{change_cut, change_join}
-use Rattle.lines.proofs.page.change.Goals as goal
-use Rattle.lines.proofs.page.change.Goals.{then-graph-x-eq1, else-graph-x-eq1}
+use Rattle.lines.proofs.repaired.change.Goals as goal
+use Rattle.lines.proofs.repaired.change.Goals.{then-graph-x-eq1, else-graph-x-eq1}
 
 pub two-requires : goal.two-requires
 two-requires c =

@@ -2,7 +2,7 @@ use lib.ListN.{length, get_or}
 use Rattle.graph.specs.Graph.{edge}
 use Rattle.lines.specs.Lines.{change_line}
 use Rattle.lines.proofs.Turns.{each_start, each_room, each_next}
-use Rattle.lines.proofs.page.changes.Goals as goal
+use Rattle.lines.proofs.repaired.changes.Goals as goal
 
 pub loop-x-init : goal.loop-x-init
 loop-x-init c =
