@@ -13,7 +13,7 @@ struct Parent(u16);
 impl fmt::Display for Parent {
     fn fmt<W: fmt::Write>(&self, f: &mut fmt::Formatter<W>) -> fmt::Result {
         match self.0 {
-            65535 => write!(f, "-"),
+            forest::NOBODY => write!(f, "-"),
             p => write!(f, "{p}"),
         }
     }

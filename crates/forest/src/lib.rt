@@ -13,8 +13,8 @@ mod recogniser;
 use crate::recogniser::Graph;
 use graph::{Quad, Refusal};
 
-// Stands in a lent list for the parent of a vertex that has none.
-const NOBODY: u16 = 65535;
+// Document 01's number in a lent list for the parent of a vertex that has none.
+pub const NOBODY: u16 = 65535;
 
 // What `forest` answers where it does not refuse: the first quad of a graph that is not clean; or a forest, with the number
 // of its groups.

@@ -127,10 +127,6 @@ module _
         meant = (nothing_behind (edge_byte n t scores), nothing_behind (price_entry n t scores));
       })
 
--- n(n-1)/2 as the code counts it
-pub half_told : (n : ℕ) → (n * n - n) / 2 ≡ half n
-half_told n = ap (λ (m : ℕ). m / 2) (omega (arith, mul-sub n n 1, mul-one n))
-
 pub squares_few : (n : ℕ) → n ≤ 128 → (n ≤ n * n) × (n * n ≤ 16384)
 squares_few zero few = (omega arith, omega arith)
 squares_few (suc n) few =
@@ -138,27 +134,23 @@ squares_few (suc n) few =
 
 -- the first scores of a list, and the first entries of two larger buffers
 module _ (n : ℕ) {t u : ℤ} (list : List ℤ) (same : u ≡ t) (few : n ≤ 128) (enough : half n ≤ length list) where
-  abbrev firsts : List ℤ
-  firsts = take ((n * n - n) / 2) list
-
-  firsts_told : firsts ≡ take (half n) list
-  firsts_told = ap (λ (m : ℕ). take m list) (half_told n)
-
   pub list_ready :
       (graph prices : List ℕ) → on_scale t ≡ true → Ok tt ≡ scores_off n (take (half n) list) → length graph ≡ 16384 → length prices ≡ 16384 →
-      Ready n u firsts (take (n * n) graph) (take (n * n) prices)
+      Ready n u (take (half n) list) (take (n * n) graph) (take (n * n) prices)
   list_ready graph prices scale scored wide high =
       record {
         few = few;
-        counted = ap length firsts_told ∙ length-take-le (half n) list enough;
+        counted = length-take-le (half n) list enough;
         scale = ap on_scale same ∙ scale;
-        scored = scored ∙ ap (scores_off n) (sym firsts_told);
+        scored = scored;
         bytes = length-take-le (n * n) graph (omega (arith, squares_few n few));
         costs = length-take-le (n * n) prices (omega (arith, squares_few n few));
       }
 
   pub list_paged :
-      {now : List ℕ} → Searched n (edge n (square n (edge_byte n u firsts))) (toll_of (square n (price_entry n u firsts))) now →
+      {now : List ℕ} →
+      Searched n (edge n (square n (edge_byte n u (take (half n) list))))
+      (toll_of (square n (price_entry n u (take (half n) list)))) now →
       Searched n (edge n (square n (edge_byte n t (take (half n) list))))
       (toll_of (square n (price_entry n t (take (half n) list)))) now
-  list_paged page = rw (firsts_told, same) at page
+  list_paged page = rw same at page

@@ -6,11 +6,11 @@ ghost use Rattle.lines.specs.Report.{Promise};
 
 mod mend;
 mod page;
+mod repaired;
 mod sheet;
-mod text;
 
 use graph::Refusal;
-use text::Page;
+use page::Page;
 
 // The lines of any input, from the text's start, and their length.
 pub fn report(sheet: &[u8], text: &mut [u8]) -> Result<usize, Refusal>

@@ -19,6 +19,7 @@ fn toggle(graph: &mut [u8], n: usize, x: usize)
     requires graph_len { length graph.old ≡ n * n }
     ensures { graph.new ≡ turned (turned graph.old x) (x % n * n + x / n) }
 {
+    // Document 01's number of a pair is i x n + j.
     let i = x / n;
     let j = x % n;
     turn(graph, x);
@@ -33,6 +34,6 @@ pub fn mend(graph: &mut [u8], n: usize, repair: &[u16])
     ensures { graph.new ≡ drawn_of n (toggled n (edge n graph.old) repair.now) }
 {
     for x in repair {
-        toggle(graph, n, *x as usize);
+        toggle(graph, n, usize::from(*x));
     }
 }

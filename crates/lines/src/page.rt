@@ -1,74 +1,105 @@
-// The lines of a repair: the pairs that it changes, the parents of the repaired graph, and what goes around them.
-ghost use Rattle.std.specs.Prelude.{◌≡◌, ℕ, ◌+◌, ◌*◌, ◌≤◌, ◌<◌, ◌++◌, length, get_or};
-ghost use Rattle.graph.specs.Each.{each};
-ghost use Rattle.graph.specs.Graph.{edge};
-ghost use Rattle.lines.specs.Lines.{vertices_line, answer_line, change_line, change_lines, parent_line};
+// The page that the lines are written on, in fixed room: each word and number stands behind what is written.
+ghost use Rattle.std.specs.Prelude.{◌≡◌, ℕ, ◌+◌, ◌≤◌, List, [], ◌++◌, length, take};
+ghost use Rattle.lines.specs.declared.page.TheConstants.{ROOM};
+ghost use Rattle.lines.specs.Text.{decimal};
+ghost use Rattle.lines.specs.Lines.{said, one, two, three};
 
-use crate::text::{Page, ROOM};
+use itoa::Buffer;
+use std::marker::Model;
 
-// `cut I J` where the pair was an edge, else `join I J`.
-fn change(page: &mut Page, n: usize, graph: &[u8], x: usize)
-    requires x_bound { (x < n * n) × (length graph.now ≡ n * n) }
-    requires x_in_bounds { length page.old + length (change_line n (edge n graph.now) x) ≤ ROOM }
-    ensures { page.new ≡ page.old ++ change_line n (edge n graph.now) x }
-{
-    let i = x / n;
-    let j = x % n;
-    if graph[x] == 1 {
-        page.two(b"cut ", i, b" ", j);
-        return;
-    }
-    page.two(b"join ", i, b" ", j);
+// The bytes that a page has room for.
+pub const ROOM: usize = 131072;
+
+// An array with its end beside it: the project's rule of fixed memory leaves no String.
+#[derive(Drop)]
+pub struct Page {
+    text: [u8; ROOM],
+    end: usize,
 }
 
-// A line for each changed pair.
-pub fn changes(page: &mut Page, n: usize, graph: &[u8], repair: &[u16])
-    requires graph_len { length graph.now ≡ n * n }
-    requires by_index { (k : ℕ) → k < length repair.now → get_or repair.now k 0 < n * n }
-    requires repair_in_bounds { length page.old + length (change_lines n (edge n graph.now) repair.now) ≤ ROOM }
-    ensures { page.new ≡ page.old ++ change_lines n (edge n graph.now) repair.now }
-{
-    for x in repair {
-        change(page, n, graph, *x as usize);
-    }
+// Clauses see the bytes that are written.
+impl Model for Page {
+    ghost Value = { List ℕ };
+
+    ghost view = { λ p. take p.end p.text };
+
+    ghost invariant = { λ p. p.end ≤ ROOM };
 }
 
-// `parent V P`, or `parent V -` where there is none, which document 01 writes as 65,535 in the list.
-#[tactic(auto, unfolding(crate::specs::Lines::parent_line))]
-fn parent(page: &mut Page, v: usize, p: u16)
-    requires { length page.old + length (parent_line v p) ≤ ROOM }
-    ensures { page.new ≡ page.old ++ parent_line v p }
-{
-    if p == 65535 {
-        page.said(b"parent ", v);
-        page.put(b" -\n");
-        return;
+impl Page {
+    // Nothing is written.
+    pub fn new() -> Page
+        ensures { result ≡ [] }
+    {
+        Page {
+            text: [0; ROOM],
+            end: 0,
+        }
     }
-    page.two(b"parent ", v, b" ", p as usize);
-}
 
-// A line for each vertex.
-pub fn parents(page: &mut Page, list: &[u16])
-    requires { length page.old + length (each (length list.now) (λ v. parent_line v (get_or list.now v 0))) ≤ ROOM }
-    ensures { page.new ≡ page.old ++ each (length list.now) (λ v. parent_line v (get_or list.now v 0)) }
-{
-    for (v, p) in list.iter().enumerate() {
-        parent(page, v, *p);
+    // All that is written.
+    pub fn written(&self) -> &[u8]
+        ensures { result.now ≡ self.now }
+    {
+        &self.text[..self.end]
     }
-}
 
-// The first two lines.
-pub fn head(page: &mut Page, n: usize, cost: usize, edits: usize, steps: usize)
-    requires { length page.old + length (vertices_line n ++ answer_line cost edits steps) ≤ ROOM }
-    ensures { page.new ≡ page.old ++ (vertices_line n ++ answer_line cost edits steps) }
-{
-    page.one(b"vertices ", n);
-    page.three(
-        b"answer 0 cost ",
-        cost,
-        b" edits ",
-        edits,
-        b" steps ",
-        steps,
-    );
+    // The bytes of a word.
+    pub fn put(&mut self, word: &[u8])
+        requires { length self.old + length word.now ≤ ROOM }
+        ensures { self.new ≡ self.old ++ word.now }
+    {
+        let end = self.end + word.len();
+        self.text[self.end..end].copy_from_slice(word);
+        self.end = end;
+    }
+
+    // A number in decimal, without leading zeros.
+    pub fn number(&mut self, x: usize)
+        requires { length self.old + length (decimal x) ≤ ROOM }
+        ensures { self.new ≡ self.old ++ decimal x }
+    {
+        let mut digits = Buffer::new();
+        self.put(digits.format(x).as_bytes());
+    }
+
+    // A word and a number.
+    pub fn said(&mut self, word: &[u8], x: usize)
+        requires { length self.old + length (said word.now x) ≤ ROOM }
+        ensures { self.new ≡ self.old ++ said word.now x }
+    {
+        self.put(word);
+        self.number(x);
+    }
+
+    // A line of a word and a number. This and the next two stay apart: they are `one`, `two` and `three` of specs/Lines,
+    // which may not change.
+    #[tactic(auto, unfolding(crate::specs::Lines::one))]
+    pub fn one(&mut self, word: &[u8], x: usize)
+        requires { length self.old + length (one word.now x) ≤ ROOM }
+        ensures { self.new ≡ self.old ++ one word.now x }
+    {
+        self.said(word, x);
+        self.put(b"\n");
+    }
+
+    // A line of two words, each with its number.
+    #[tactic(auto, unfolding(crate::specs::Lines::two))]
+    pub fn two(&mut self, word: &[u8], x: usize, other: &[u8], y: usize)
+        requires { length self.old + length (two word.now x other.now y) ≤ ROOM }
+        ensures { self.new ≡ self.old ++ two word.now x other.now y }
+    {
+        self.said(word, x);
+        self.one(other, y);
+    }
+
+    // A line of three words, each with its number.
+    #[tactic(auto, unfolding(crate::specs::Lines::three))]
+    pub fn three(&mut self, word: &[u8], x: usize, other: &[u8], y: usize, last: &[u8], z: usize)
+        requires { length self.old + length (three word.now x other.now y last.now z) ≤ ROOM }
+        ensures { self.new ≡ self.old ++ three word.now x other.now y last.now z }
+    {
+        self.said(word, x);
+        self.two(other, y, last, z);
+    }
 }

@@ -1,9 +1,11 @@
 // The lines of a sheet: what the reader refuses, the search, the repair and its forest.
+// n and the lent bytes stay two parameters, as `to_graph`, `pruned` and `forest` take them: a struct would be taken apart
+// at each of these calls. `as usize` widens a u32: usize has no From<u32>.
 ghost use Rattle.std.specs.Prelude.{◌≡◌, true, [], ◌++◌, ◌+◌, ◌*◌, ◌≤◌, ◌<◌, length, take, ℤ};
 ghost use Rattle.graph.specs.Graph.{edge, IsGraph};
 ghost use Rattle.graph.specs.Check.{entries};
 ghost use Rattle.graph.specs.Quad.{Clean};
-ghost use Rattle.graph.specs.Refusal.{refusal, number_of, row_of, column_of};
+ghost use Rattle.graph.specs.Refusal.{number, row_at, column_at};
 ghost use Rattle.repair.specs.Pair.{is_pair, all, ascending};
 ghost use Rattle.repair.specs.Repair.{toggled, toll_of};
 ghost use Rattle.scores.specs.Scale.{half, on_scale, scores_off, edge_byte, price_entry, square};
@@ -11,8 +13,8 @@ ghost use Rattle.lines.specs.Lines.{refusal_line, tree_lines};
 ghost use Rattle.lines.specs.Inner.{drawn_of, first_lines, repair_lines, Checked, Ready};
 ghost use Rattle.lines.specs.Report.{Searched, Lines};
 
-use crate::text::{Page, ROOM};
-use crate::{mend, page};
+use crate::page::{Page, ROOM};
+use crate::{mend, repaired};
 use forest::Answer::{Forest, Spoiled};
 use graph::Refusal;
 use scores::Trailer;
@@ -28,24 +30,13 @@ fn trees(page: &mut Page, n: usize, graph: &[u8])
     let mut list = [0u16; 128];
     match forest::forest(n, graph, &mut list) {
         Ok(Forest { groups }) => {
-            page::parents(page, &list[..n]);
+            repaired::parents(page, &list[..n]);
             page.one(b"groups ", groups);
         }
         // The graph passes the checks and is clean.
         Ok(Spoiled(_)) => unreachable!(),
         Err(_) => unreachable!(),
     }
-}
-
-// The first lines, up to those of the changed pairs.
-fn edited(page: &mut Page, n: usize, graph: &[u8], repair: &[u16], cost: usize, steps: usize)
-    requires graph_len { length graph.now ≡ n * n }
-    requires repair_value { all (is_pair n) repair.now ≡ true }
-    requires repair_in_bounds { length page.old + length (first_lines n (edge n graph.now) repair.now cost steps) ≤ ROOM }
-    ensures { page.new ≡ page.old ++ first_lines n (edge n graph.now) repair.now cost steps }
-{
-    page::head(page, n, cost, repair.len(), steps);
-    page::changes(page, n, graph, repair);
 }
 
 // All lines of a repair.
@@ -55,7 +46,8 @@ fn mended(page: &mut Page, n: usize, graph: &mut [u8], repair: &[u16], cost: usi
     requires repair_in_bounds { length page.old + length (repair_lines n (edge n graph.old) repair.now cost steps) ≤ ROOM }
     ensures { page.new ≡ page.old ++ repair_lines n (edge n graph.old) repair.now cost steps }
 {
-    edited(page, n, graph, repair, cost, steps);
+    repaired::head(page, n, cost, repair.len(), steps);
+    repaired::changes(page, n, graph, repair);
     mend::mend(graph, n, repair);
     trees(page, n, graph);
 }
@@ -113,7 +105,7 @@ fn listed(page: &mut Page, n: usize, t: i16, list: &[i16])
     let mut graph = [0u8; 16384];
     let mut prices = [0u16; 16384];
     let entries = n * n;
-    let pairs = (entries - n) / 2;
+    let pairs = graph::pairs_of(n);
     drawn(
         page,
         n,
@@ -125,13 +117,10 @@ fn listed(page: &mut Page, n: usize, t: i16, list: &[i16])
 }
 
 // The line of what the reader refuses.
-fn refused(page: &mut Page, read: Result<Trailer, Refusal>)
+fn refused(page: &mut Page, refusal: Refusal)
     requires { page.old ≡ [] }
-    ensures { page.new ≡ refusal_line (number_of (refusal read)) (row_of (refusal read)) (column_of (refusal read)) }
+    ensures { page.new ≡ refusal_line (number refusal) (row_at refusal) (column_at refusal) }
 {
-    let Err(refusal) = read else {
-        return page.three(b"answer ", 0, b" place ", 0, b" ", 0);
-    };
     let (row, column) = refusal.place();
     page.three(
         b"answer ",
@@ -149,12 +138,12 @@ pub fn lines_of(sheet: &[u8], page: &mut Page)
     ensures { Lines sheet.now page.new }
 {
     if 49032 < sheet.len() {
-        return refused(page, Err(Refusal::BadSheet));
+        return refused(page, Refusal::BadSheet);
     }
     let mut list = [0i16; 8128];
     let read = scores::read(sheet, &mut list);
     let Ok(Trailer { n, t, .. }) = read else {
-        return refused(page, read);
+        return refused(page, read.unwrap_err());
     };
     listed(page, n, t, &list);
 }

@@ -14,7 +14,7 @@ returns-then-sheet-gt49032 c =
 
 pub returns-in_default : goal.returns-in_default
 returns-in_default c =
-    refused_paged c.args.sheet.now c.if-sheet-gt49032.false _ (length-replicate {A = ℤ} 8128 (pos 0)) c.read-read.ensures c.in_default.is c.refused-in_default.ensures
+    refused_paged c.args.sheet.now c.if-sheet-gt49032.false _ (length-replicate {A = ℤ} 8128 (pos 0)) c.read-read.ensures c.unwrap_err.ensures c.refused-in_default.ensures
 
 pub listed-requires : goal.listed-requires
 listed-requires c =

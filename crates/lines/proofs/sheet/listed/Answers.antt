@@ -9,10 +9,10 @@ use Rattle.lines.proofs.sheet.listed.Goals as goal
 pub drawn-requires : goal.drawn-requires
 drawn-requires c =
     record {
-      ready = list_ready c.args.n c.args.list.now (to_z-of_z w16 c.args.t c.ranges.t) c.requires.n_bound.0 c.requires.n_bound.1 _ _ c.requires.t_value.0 c.requires.t_value.1 (length-replicate {A = ℕ} 16384 0) (length-replicate {A = ℕ} 16384 0);
+      ready = rw c.pairs_of-pairs.ensures (list_ready c.args.n c.args.list.now (to_z-of_z w16 c.args.t c.ranges.t) c.requires.n_bound.0 c.requires.n_bound.1 _ _ c.requires.t_value.0 c.requires.t_value.1 (length-replicate {A = ℕ} 16384 0) (length-replicate {A = ℕ} 16384 0));
       empty = c.requires.empty;
     }
 
 pub returns : goal.returns
 returns c =
-    list_paged c.args.n c.args.list.now (to_z-of_z w16 c.args.t c.ranges.t) c.requires.n_bound.0 c.requires.n_bound.1 c.drawn.ensures
+    list_paged c.args.n c.args.list.now (to_z-of_z w16 c.args.t c.ranges.t) c.requires.n_bound.0 c.requires.n_bound.1 (rw c.pairs_of-pairs.ensures at c.drawn.ensures)

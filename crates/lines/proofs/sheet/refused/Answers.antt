@@ -6,8 +6,4 @@ use Rattle.lines.proofs.sheet.refused.Goals as goal
 
 pub three-requires : goal.three-requires
 three-requires c =
-    room_alone c.requires _ (refusal_short 0 0 0 (omega arith) (omega arith) (omega arith))
-
-pub three-requires-2 : goal.three-requires-2
-three-requires-2 c =
     room_alone c.requires _ (refusal_short c.number.result c.place-row.result.0 c.place-row.result.1 (omega arith) (omega arith) (omega arith))

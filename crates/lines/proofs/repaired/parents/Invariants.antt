@@ -4,7 +4,7 @@ use mathlib.Core.List.{◌++◌}
 use lib.ListN.{get_or}
 use Rattle.graph.specs.Each.{each}
 use Rattle.lines.specs.Lines.{parent_line}
-use Rattle.lines.proofs.page.parents.Given as goal
+use Rattle.lines.proofs.repaired.parents.Given as goal
 
 abbrev pub invariant-loop-v : goal.invariant-loop-v
 invariant-loop-v l = l.page ≡ l.initial.page ++ each l.v (λ u. parent_line u (get_or l.list u 0))

@@ -3,7 +3,7 @@ use native.Mathlib.Omega.{arith}
 use mathlib.Core.Path.{◌∙◌}
 use Rattle.lines.proofs.Behind.{room_as, put_as}
 use Rattle.lines.proofs.Decimals.{decimal_told}
-use Rattle.lines.proofs.text.Page.number.Goals as goal
+use Rattle.lines.proofs.page.Page.number.Goals as goal
 
 pub put-requires : goal.put-requires
 put-requires c =

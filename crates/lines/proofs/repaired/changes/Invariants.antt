@@ -5,7 +5,7 @@ use lib.ListN.{get_or}
 use Rattle.graph.specs.Each.{each}
 use Rattle.graph.specs.Graph.{edge}
 use Rattle.lines.specs.Lines.{change_line}
-use Rattle.lines.proofs.page.changes.Given as goal
+use Rattle.lines.proofs.repaired.changes.Given as goal
 
 abbrev pub invariant-loop-x : goal.invariant-loop-x
 invariant-loop-x l = l.page ≡ l.initial.page ++ each l.x-index (λ k. change_line l.n (edge l.n l.graph) (get_or l.repair k 0))

@@ -1,7 +1,7 @@
 use lib.ListN.{length, get_or}
 use Rattle.lines.specs.Lines.{parent_line}
 use Rattle.lines.proofs.Turns.{each_start, each_room, each_next}
-use Rattle.lines.proofs.page.parents.Goals as goal
+use Rattle.lines.proofs.repaired.parents.Goals as goal
 
 pub loop-v-init : goal.loop-v-init
 loop-v-init c =
