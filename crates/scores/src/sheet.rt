@@ -1,5 +1,5 @@
 // The sheet's fields: numbers read from bytes and written to bytes, low byte first, and the scores among them.
-ghost use Rattle.std.specs.Prelude.{◌≡◌, ◌+◌, ◌*◌, ◌≤◌, ◌<◌, length, IfOk};
+ghost use Rattle.std.specs.Prelude.{◌≡◌, ◌+◌, ◌*◌, ◌≤◌, ◌<◌, length, take, drop, IfOk};
 ghost use Rattle.std.proofs.Math.Seq.{paste};
 ghost use Rattle.std.specs.Int.{w16};
 ghost use Rattle.std.proofs.Common.{to_z};
@@ -12,12 +12,20 @@ ghost use Rattle.scores.specs.Inner.{scores_in, trailer_of};
 use crate::{Trailer, scale};
 use graph::Refusal;
 
+// The N bytes at a place.
+fn bytes<const N: usize>(s: &[u8], at: usize) -> [u8; N]
+    requires { at + N ≤ length s.now }
+    ensures { result ≡ take N (drop at s.now) }
+{
+    s[at..at + N].try_into().unwrap()
+}
+
 // The number in the two bytes at a place.
 pub fn number2(s: &[u8], at: usize) -> u16
     requires { at + 2 ≤ length s.now }
     ensures { result ≡ field s.now at 2 }
 {
-    u16::from_le_bytes([s[at], s[at + 1]])
+    u16::from_le_bytes(bytes(s, at))
 }
 
 // The number in the four bytes at a place.
@@ -25,7 +33,7 @@ pub fn number4(s: &[u8], at: usize) -> usize
     requires { at + 4 ≤ length s.now }
     ensures { result ≡ field s.now at 4 }
 {
-    u32::from_le_bytes([s[at], s[at + 1], s[at + 2], s[at + 3]]) as usize
+    u32::from_le_bytes(bytes(s, at)) as usize
 }
 
 // The signed number in the two bytes at a place.
@@ -33,7 +41,7 @@ pub fn signed2(s: &[u8], at: usize) -> i16
     requires { at + 2 ≤ length s.now }
     ensures { result ≡ to_z w16 (field s.now at 2) }
 {
-    i16::from_le_bytes([s[at], s[at + 1]])
+    i16::from_le_bytes(bytes(s, at))
 }
 
 // The k-th score behind p bytes of notes.
