@@ -54,7 +54,8 @@ pub fn read(sheet: &[u8], scores: &mut [i16]) -> Result<Trailer, Refusal>
     Ok(trailer)
 }
 
-// The notes, as a part of the sheet; empty where the reader would refuse the sheet for anything but room.
+// The notes, as a part of the sheet; empty, and not an Option, where the reader would refuse the sheet for anything but room: so
+// document 01 has it, and `shown`.
 pub fn notes(sheet: &[u8]) -> &[u8]
     ensures { result.now ≡ shown sheet.now }
 {

@@ -59,13 +59,14 @@ fn spot_of(n: usize, i: usize, j: usize) -> usize
 
 // 5: the threshold, then the first score off the scale, row by row, with its pair. The scores are those of any list xs whose
 // k-th score `score` gives at k. The pairs are half of what `graph::check::row_by_row` goes over, so the loops stand here.
-pub fn scale_fault<F: Fn(usize) -> i16>(n: usize, t: i16, score: F) -> Result<(), Refusal>
+pub fn all_on_scale<F: Fn(usize) -> i16>(n: usize, t: i16, score: F) -> Result<(), Refusal>
     requires n_bound { n ≤ 128 }
     requires callable { (k : ℕ) → k < half n → F.pre score k }
     ensures { (xs : List ℤ) → ((k : ℕ) (s : ℤ) → k < half n → F.post score k s → s ≡ get_or xs k (pos 0))
         → result ≡ first_of (threshold_off t ∷ scores_off n xs ∷ []) }
 {
     if !on_scale(t) {
+        // Document 01: the threshold's place is (0, 0), `threshold_off`.
         return Err(Refusal::OffScale { row: 0, column: 0 });
     }
     for i in 0..n {
@@ -116,6 +117,6 @@ impl<'a> Scores<'a> {
     pub fn scale_fault(&self, t: i16) -> Result<(), Refusal>
         ensures { result ≡ first_of (threshold_off t ∷ scores_off self.now.n self.now.list.now ∷ []) }
     {
-        scale_fault(self.n, t, |k| self.list[k])
+        all_on_scale(self.n, t, |k| self.list[k])
     }
 }

@@ -28,7 +28,7 @@ pub fn number2(s: &[u8], at: usize) -> u16
     u16::from_le_bytes(bytes(s, at))
 }
 
-// The number in the four bytes at a place.
+// The number in the four bytes at a place. `as` widens: `usize` has no From<u32>.
 pub fn number4(s: &[u8], at: usize) -> usize
     requires { at + 4 ≤ length s.now }
     ensures { result ≡ field s.now at 4 }
@@ -77,6 +77,7 @@ pub fn put_scores(buf: &mut [u8], scores: &[i16])
     requires { 2 * length scores.now ≤ length buf.old }
     ensures { buf.new ≡ paste buf.old 0 (score_bytes scores.now) (2 * length scores.now) }
 {
+    // Tried, and the proof did not close: after `buf.chunks_exact_mut(2).zip(scores)` the kit says nothing of the buffer's bytes.
     for (k, s) in scores.iter().enumerate() {
         buf[2 * k..2 * k + 2].copy_from_slice(&s.to_le_bytes());
     }
@@ -89,6 +90,7 @@ pub fn put_trailer(buf: &mut [u8], trailer: Trailer)
     requires n_bound { trailer.n ≤ 128 }
     ensures { buf.new ≡ paste buf.old 0 (trailer_bytes trailer.p trailer.n trailer.t) 8 }
 {
+    // `as`, as p_bound and n_bound have the range: try_into would be a refusal that never comes.
     buf[..4].copy_from_slice(&(trailer.p as u32).to_le_bytes());
     buf[4..6].copy_from_slice(&(trailer.n as u16).to_le_bytes());
     buf[6..8].copy_from_slice(&trailer.t.to_le_bytes());
@@ -112,7 +114,7 @@ fn trailer_of(sheet: &[u8]) -> Trailer
     let end = sheet.len();
     Trailer {
         p: number4(sheet, end - 8),
-        n: number2(sheet, end - 4) as usize,
+        n: usize::from(number2(sheet, end - 4)),
         t: signed2(sheet, end - 2),
     }
 }
@@ -141,6 +143,6 @@ pub fn checked(sheet: &[u8]) -> Result<Trailer, Refusal>
     ensures trailer { IfOk result (λ h. h ≡ trailer_of sheet.now) }
 {
     let trailer = laid_out(sheet)?;
-    scale::scale_fault(trailer.n, trailer.t, |k| score_at(sheet, trailer.p, k))?;
+    scale::all_on_scale(trailer.n, trailer.t, |k| score_at(sheet, trailer.p, k))?;
     Ok(trailer)
 }
