@@ -29,7 +29,7 @@ pub fn row_by_row<F: Fn(usize, usize) -> Result<(), Refusal>>(
 fn most(i: usize, j: usize) -> u8
     ensures { result ≡ pick (eqb i j) 0 1 }
 {
-    if i == j { 0 } else { 1 }
+    u8::from(i != j)
 }
 
 // The entry at row i, column j.

@@ -1,7 +1,8 @@
-// Graphs as lent bytes and as words: the checks 1 to 4, rows, toggling a pair, and the first quad in listing order.
+// Graphs as lent bytes and as words: the refusals of every call, the checks 3 and 4, rows, toggling a pair, and the first quad in
+// listing order.
 #![tactic(auto)]
 
-ghost use Rattle.std.specs.Prelude.{◌≡◌};
+ghost use Rattle.std.specs.Prelude.{◌≡◌, ◌*◌, ◌-◌, ◌/◌, ◌≤◌};
 ghost use Rattle.graph.specs.Refusal.{number, row_at, column_at};
 
 use std::fmt;
@@ -26,7 +27,7 @@ pub enum Refusal {
 }
 
 impl Refusal {
-    // The table's number.
+    // The table's number. (A method, and no From: docs/CONTRACTS.md names it, and a reader of `u32::from(refusal)` would ask which.)
     pub fn number(self) -> u32
         ensures { result ≡ number self }
     {
@@ -43,7 +44,7 @@ impl Refusal {
         }
     }
 
-    // The row and the column of the entry at fault; (0, 0) where no entry is.
+    // The row and the column of the entry at fault; else (0, 0), and not None: "Every other answer has place (0, 0)".
     pub fn place(self) -> (usize, usize)
         ensures { result ≡ (row_at self, column_at self) }
     {
@@ -62,6 +63,17 @@ impl fmt::Display for Refusal {
         let (row, column) = self.place();
         write!(f, "answer {} place {row} {column}", self.number())
     }
+}
+
+// Document 01's price of a pair that is fixed and may not be changed.
+pub const FIXED: u16 = 65535;
+
+// How many pairs n vertices have.
+pub fn pairs_of(n: usize) -> usize
+    requires { n ≤ 128 }
+    ensures { result ≡ n * (n - 1) / 2 }
+{
+    n * n.saturating_sub(1) / 2
 }
 
 // Four vertices a, b, c, d that spoil a graph: an induced path or cycle.
