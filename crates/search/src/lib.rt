@@ -13,6 +13,7 @@ ghost use Rattle.search.specs.Ends.{Told, Engaged};
 use graph::Refusal;
 use memory::{Tally, trail};
 use room::Room;
+use std::fmt;
 use tree::Search;
 
 pub mod room;
@@ -33,6 +34,20 @@ pub enum Answer {
         pairs: usize,
         steps: u32,
     },
+}
+
+impl fmt::Display for Answer {
+    fn fmt<W: fmt::Write>(&self, f: &mut fmt::Formatter<W>) -> fmt::Result {
+        match self {
+            Answer::Stopped { steps } => write!(f, "answer 9 steps {steps}"),
+            Answer::Nothing { steps } => write!(f, "answer 8 steps {steps}"),
+            Answer::Repaired {
+                price,
+                pairs,
+                steps,
+            } => write!(f, "answer 0 cost {price} edits {pairs} steps {steps}"),
+        }
+    }
 }
 
 // How many pairs n vertices have.
