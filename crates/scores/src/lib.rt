@@ -47,7 +47,7 @@ pub fn read(sheet: &[u8], scores: &mut [i16]) -> Result<Trailer, Refusal>
     ensures { Read sheet.now scores.old result scores.new }
 {
     let trailer = sheet::checked(sheet)?;
-    if scores.len() < scale::half_of(trailer.n) {
+    if scores.len() < graph::pairs_of(trailer.n) {
         return Err(Refusal::NoRoom);
     }
     sheet::take_scores(sheet, trailer.p, trailer.n, scores);

@@ -28,16 +28,8 @@ pub fn price(s: i16, t: i16) -> u16
     s.abs_diff(t).max(1)
 }
 
-// n(n-1)/2, the number of pairs. Here and below "n ≤ 128" is a clause and not a type's invariant: a sheet's n is checked before
-// there are scores for `Scores`, and a type for n alone would be no plainer.
-pub fn half_of(n: usize) -> usize
-    requires { n ≤ 128 }
-    ensures { result ≡ half n }
-{
-    n * n.saturating_sub(1) / 2
-}
-
-// How many pairs stand before row i.
+// How many pairs stand before row i. Here and below "n ≤ 128" is a clause and not a type's invariant: a sheet's n is checked
+// before there are scores for `Scores`, and a type for n alone would be no plainer.
 fn earlier_of(n: usize, i: usize) -> usize
     requires n_bound { n ≤ 128 }
     requires i_lt_n { i < n }
@@ -97,7 +89,7 @@ impl<'a> Scores<'a> {
         if 128 < n {
             return Err(Refusal::TooManyVertices);
         }
-        if list.len() != half_of(n) {
+        if list.len() != graph::pairs_of(n) {
             return Err(Refusal::WrongLength);
         }
         Ok(Scores { n, list })

@@ -59,7 +59,7 @@ pub fn take_scores(sheet: &[u8], p: usize, n: usize, scores: &mut [i16])
     requires n_in_bounds { half n ≤ length scores.old }
     ensures { scores.new ≡ paste scores.old 0 (scores_in sheet.now p n) (half n) }
 {
-    for (k, s) in scores[..scale::half_of(n)].iter_mut().enumerate() {
+    for (k, s) in scores[..graph::pairs_of(n)].iter_mut().enumerate() {
         *s = score_at(sheet, p, k);
     }
 }
@@ -103,7 +103,7 @@ pub fn length_of(p: usize, n: usize) -> usize
     requires p_bound { p < 4294967296 }
     ensures { result ≡ sheet_length p n }
 {
-    p + 2 * scale::half_of(n) + 8
+    p + 2 * graph::pairs_of(n) + 8
 }
 
 // The trailer of a sheet that has one.
