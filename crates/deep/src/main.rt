@@ -16,20 +16,12 @@ fn dives<F: Fn(u32, &mut [u16]) -> Result<Answer, Refusal>>(
 {
     for most in [8001, 8400] {
         let mut list = [0u16; 8128];
-        let answer = engine(most, &mut list);
-        show(rt, name, answer)?;
+        match engine(most, &mut list) {
+            Ok(answer) => println!(rt; "{name} {answer}")?,
+            Err(refusal) => println!(rt; "{name} {refusal}")?,
+        }
     }
     Ok(())
-}
-
-fn show(rt: &impl Print, name: &str, answer: Result<Answer, Refusal>) -> io::Result<()> {
-    print!(rt; "{name} answer ")?;
-    match answer {
-        Ok(Answer::Stopped { steps }) => println!(rt; "9 steps {steps}"),
-        Ok(Answer::Nothing { steps }) => println!(rt; "8 steps {steps}"),
-        Ok(Answer::Repaired { price, steps, .. }) => println!(rt; "0 cost {price} steps {steps}"),
-        Err(refusal) => println!(rt; "{}", refusal.number()),
-    }
 }
 
 // Is {i, j} an edge? All pairs are but those two apart.

@@ -1,5 +1,5 @@
 // Runs both engines and the bound on the figures of document 01, marked and unmarked, and on the inputs that a new user tries
-// first, a line each: the answer, and how many entries of the lent list, all 999 before the call, are no longer 999.
+// first, a line each: the answer, and the entries of the lent list, all 999 before the call, that are no longer 999.
 #![tactic(auto)]
 
 use graph::Refusal;
@@ -35,9 +35,10 @@ impl<'a> Question<'a> {
             self.most,
             &mut list[..self.room.min(40)],
         );
-        print!(rt; "  {name} ")?;
-        show(rt, answer)?;
-        print!(rt; " list")?;
+        match answer {
+            Ok(answer) => print!(rt; "  {name} {answer} list")?,
+            Err(refusal) => print!(rt; "  {name} {refusal} list")?,
+        }
         for x in list.iter().filter(|x| **x != 999) {
             print!(rt; " {x}")?;
         }
@@ -57,21 +58,6 @@ impl<'a> Question<'a> {
         self.ask(rt, "plain", search::plain)?;
         self.ask(rt, "pruned", search::pruned)?;
         self.bound(rt)
-    }
-}
-
-fn show(rt: &impl Print, answer: Result<Answer, Refusal>) -> io::Result<()> {
-    match answer {
-        Ok(Answer::Stopped { steps }) => print!(rt; "answer 9 steps {steps}"),
-        Ok(Answer::Nothing { steps }) => print!(rt; "answer 8 steps {steps}"),
-        Ok(
-            Answer::Repaired {
-                price,
-                pairs,
-                steps,
-            },
-        ) => { print!(rt; "answer 0 cost {price} edits {pairs} steps {steps}") }
-        Err(refusal) => print!(rt; "{refusal}"),
     }
 }
 

@@ -17,7 +17,7 @@ use graph::{Quad, Refusal};
 pub const NOBODY: u16 = 65535;
 
 // What `forest` answers where it does not refuse: the first quad of a graph that is not clean; or a forest, with the number
-// of its groups.
+// of its groups. An enum of its own, as neither case is a refusal (document 01, `Meant`).
 #[derive(Clone, Copy, Debug, PartialEq, Eq)]
 pub enum Answer {
     Spoiled(Quad),

@@ -25,7 +25,8 @@ fn written(rt: &impl Print, name: &str, n: usize, t: i16, list: &[i16]) -> io::R
 }
 
 // n vertices that four by four make a path: the scores of a path's first edge, of its other edges, and of all other pairs.
-// The pair (i - 1, i) is the first of its row.
+// The pair (i - 1, i) is the first of its row, at `at`: each row is one shorter than the last, so no `for` steps over their
+// firsts, and the place as a formula of i is no plainer than the sum that runs.
 fn paths(rt: &impl Print, name: &str, n: usize, scores: [i16; 3]) -> io::Result<()>
     requires { n ≤ 128 }
 {

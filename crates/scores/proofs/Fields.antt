@@ -8,6 +8,7 @@ use native.Mathlib.Omega.{arith}
 use lib.ListN.{length, get_or, take, drop, length-take, length-drop, get_or-eq_default}
 use lib.Seq.{drop-cons, take_at, drop_at, get_or-take, get_or-drop, length-take-le}
 use Rattle.bits.proofs.Truth.{below}
+use Rattle.std.specs.Int.{w16, w32, from_le_bytes}
 use Rattle.scores.specs.Sheet.{low_first, number, field, AreBytes}
 
 pub length_low : (k v : ℕ) → length (low_first k v) ≡ k
@@ -82,9 +83,19 @@ field_none s at = refl
 pub field_two : (s : List ℕ) (at : ℕ) → at + 2 ≤ length s → field s at 2 ≡ get_or s at 0 + 256 * get_or s (at + 1) 0
 field_two s at h = field_more s at 0 h ∙ omega (arith, field_none s (at + 2))
 
-pub field_four :
-    (s : List ℕ) (at : ℕ) → at + 4 ≤ length s →
-    field s at 4 ≡ get_or s at 0 + 256 * (get_or s (at + 1) 0 + 256 * (get_or s (at + 2) 0 + 256 * get_or s (at + 3) 0))
-field_four s at h =
-    let last : get_or s (at + 2 + 1) 0 ≡ get_or s (at + 3) 0 = ap (λ (x : ℕ). get_or s x 0) (omega arith) in
-    field_more s at 2 (omega arith) ∙ omega (arith, field_two s (at + 2) (omega arith))
+-- what the kit reads from two and from four bytes
+pub number_two : (bs : List ℕ) → length bs ≡ 2 → from_le_bytes w16 bs ≡ number bs
+unfolding number
+number_two (a ∷ b ∷ []) h = omega arith
+number_two [] h = absurd (omega arith)
+number_two (_ ∷ []) h = absurd (omega arith)
+number_two (_ ∷ _ ∷ _ ∷ _) h = absurd (omega arith)
+
+pub number_four : (bs : List ℕ) → length bs ≡ 4 → from_le_bytes w32 bs ≡ number bs
+unfolding number
+number_four (a ∷ b ∷ c ∷ d ∷ []) h = omega arith
+number_four [] h = absurd (omega arith)
+number_four (_ ∷ []) h = absurd (omega arith)
+number_four (_ ∷ _ ∷ []) h = absurd (omega arith)
+number_four (_ ∷ _ ∷ _ ∷ []) h = absurd (omega arith)
+number_four (_ ∷ _ ∷ _ ∷ _ ∷ _ ∷ _) h = absurd (omega arith)

@@ -47,14 +47,15 @@ pub fn read(sheet: &[u8], scores: &mut [i16]) -> Result<Trailer, Refusal>
     ensures { Read sheet.now scores.old result scores.new }
 {
     let trailer = sheet::checked(sheet)?;
-    if scores.len() < scale::half_of(trailer.n) {
+    if scores.len() < graph::pairs_of(trailer.n) {
         return Err(Refusal::NoRoom);
     }
     sheet::take_scores(sheet, trailer.p, trailer.n, scores);
     Ok(trailer)
 }
 
-// The notes, as a part of the sheet; empty where the reader would refuse the sheet for anything but room.
+// The notes, as a part of the sheet; empty, and not an Option, where the reader would refuse the sheet for anything but room: so
+// document 01 has it, and `shown`.
 pub fn notes(sheet: &[u8]) -> &[u8]
     ensures { result.now ≡ shown sheet.now }
 {

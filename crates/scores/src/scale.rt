@@ -28,16 +28,8 @@ pub fn price(s: i16, t: i16) -> u16
     s.abs_diff(t).max(1)
 }
 
-// n(n-1)/2, the number of pairs. Here and below "n ≤ 128" is a clause and not a type's invariant: a sheet's n is checked before
-// there are scores for `Scores`, and a type for n alone would be no plainer.
-pub fn half_of(n: usize) -> usize
-    requires { n ≤ 128 }
-    ensures { result ≡ half n }
-{
-    n * n.saturating_sub(1) / 2
-}
-
-// How many pairs stand before row i.
+// How many pairs stand before row i. Here and below "n ≤ 128" is a clause and not a type's invariant: a sheet's n is checked
+// before there are scores for `Scores`, and a type for n alone would be no plainer.
 fn earlier_of(n: usize, i: usize) -> usize
     requires n_bound { n ≤ 128 }
     requires i_lt_n { i < n }
@@ -59,13 +51,14 @@ fn spot_of(n: usize, i: usize, j: usize) -> usize
 
 // 5: the threshold, then the first score off the scale, row by row, with its pair. The scores are those of any list xs whose
 // k-th score `score` gives at k. The pairs are half of what `graph::check::row_by_row` goes over, so the loops stand here.
-pub fn scale_fault<F: Fn(usize) -> i16>(n: usize, t: i16, score: F) -> Result<(), Refusal>
+pub fn all_on_scale<F: Fn(usize) -> i16>(n: usize, t: i16, score: F) -> Result<(), Refusal>
     requires n_bound { n ≤ 128 }
     requires callable { (k : ℕ) → k < half n → F.pre score k }
     ensures { (xs : List ℤ) → ((k : ℕ) (s : ℤ) → k < half n → F.post score k s → s ≡ get_or xs k (pos 0))
         → result ≡ first_of (threshold_off t ∷ scores_off n xs ∷ []) }
 {
     if !on_scale(t) {
+        // Document 01: the threshold's place is (0, 0), `threshold_off`.
         return Err(Refusal::OffScale { row: 0, column: 0 });
     }
     for i in 0..n {
@@ -96,7 +89,7 @@ impl<'a> Scores<'a> {
         if 128 < n {
             return Err(Refusal::TooManyVertices);
         }
-        if list.len() != half_of(n) {
+        if list.len() != graph::pairs_of(n) {
             return Err(Refusal::WrongLength);
         }
         Ok(Scores { n, list })
@@ -116,6 +109,6 @@ impl<'a> Scores<'a> {
     pub fn scale_fault(&self, t: i16) -> Result<(), Refusal>
         ensures { result ≡ first_of (threshold_off t ∷ scores_off self.now.n self.now.list.now ∷ []) }
     {
-        scale_fault(self.n, t, |k| self.list[k])
+        all_on_scale(self.n, t, |k| self.list[k])
     }
 }

@@ -1,5 +1,5 @@
 // The sheet's fields: numbers read from bytes and written to bytes, low byte first, and the scores among them.
-ghost use Rattle.std.specs.Prelude.{◌≡◌, ◌+◌, ◌*◌, ◌≤◌, ◌<◌, length, IfOk};
+ghost use Rattle.std.specs.Prelude.{◌≡◌, ◌+◌, ◌*◌, ◌≤◌, ◌<◌, length, take, drop, IfOk};
 ghost use Rattle.std.proofs.Math.Seq.{paste};
 ghost use Rattle.std.specs.Int.{w16};
 ghost use Rattle.std.proofs.Common.{to_z};
@@ -12,20 +12,28 @@ ghost use Rattle.scores.specs.Inner.{scores_in, trailer_of};
 use crate::{Trailer, scale};
 use graph::Refusal;
 
+// The N bytes at a place.
+fn bytes<const N: usize>(s: &[u8], at: usize) -> [u8; N]
+    requires { at + N ≤ length s.now }
+    ensures { result ≡ take N (drop at s.now) }
+{
+    s[at..at + N].try_into().unwrap()
+}
+
 // The number in the two bytes at a place.
 pub fn number2(s: &[u8], at: usize) -> u16
     requires { at + 2 ≤ length s.now }
     ensures { result ≡ field s.now at 2 }
 {
-    u16::from_le_bytes([s[at], s[at + 1]])
+    u16::from_le_bytes(bytes(s, at))
 }
 
-// The number in the four bytes at a place.
+// The number in the four bytes at a place. `as` widens: `usize` has no From<u32>.
 pub fn number4(s: &[u8], at: usize) -> usize
     requires { at + 4 ≤ length s.now }
     ensures { result ≡ field s.now at 4 }
 {
-    u32::from_le_bytes([s[at], s[at + 1], s[at + 2], s[at + 3]]) as usize
+    u32::from_le_bytes(bytes(s, at)) as usize
 }
 
 // The signed number in the two bytes at a place.
@@ -33,7 +41,7 @@ pub fn signed2(s: &[u8], at: usize) -> i16
     requires { at + 2 ≤ length s.now }
     ensures { result ≡ to_z w16 (field s.now at 2) }
 {
-    i16::from_le_bytes([s[at], s[at + 1]])
+    i16::from_le_bytes(bytes(s, at))
 }
 
 // The k-th score behind p bytes of notes.
@@ -51,7 +59,7 @@ pub fn take_scores(sheet: &[u8], p: usize, n: usize, scores: &mut [i16])
     requires n_in_bounds { half n ≤ length scores.old }
     ensures { scores.new ≡ paste scores.old 0 (scores_in sheet.now p n) (half n) }
 {
-    for (k, s) in scores[..scale::half_of(n)].iter_mut().enumerate() {
+    for (k, s) in scores[..graph::pairs_of(n)].iter_mut().enumerate() {
         *s = score_at(sheet, p, k);
     }
 }
@@ -69,6 +77,7 @@ pub fn put_scores(buf: &mut [u8], scores: &[i16])
     requires { 2 * length scores.now ≤ length buf.old }
     ensures { buf.new ≡ paste buf.old 0 (score_bytes scores.now) (2 * length scores.now) }
 {
+    // Tried, and the proof did not close: after `buf.chunks_exact_mut(2).zip(scores)` the kit says nothing of the buffer's bytes.
     for (k, s) in scores.iter().enumerate() {
         buf[2 * k..2 * k + 2].copy_from_slice(&s.to_le_bytes());
     }
@@ -81,6 +90,7 @@ pub fn put_trailer(buf: &mut [u8], trailer: Trailer)
     requires n_bound { trailer.n ≤ 128 }
     ensures { buf.new ≡ paste buf.old 0 (trailer_bytes trailer.p trailer.n trailer.t) 8 }
 {
+    // `as`, as p_bound and n_bound have the range: try_into would be a refusal that never comes.
     buf[..4].copy_from_slice(&(trailer.p as u32).to_le_bytes());
     buf[4..6].copy_from_slice(&(trailer.n as u16).to_le_bytes());
     buf[6..8].copy_from_slice(&trailer.t.to_le_bytes());
@@ -93,7 +103,7 @@ pub fn length_of(p: usize, n: usize) -> usize
     requires p_bound { p < 4294967296 }
     ensures { result ≡ sheet_length p n }
 {
-    p + 2 * scale::half_of(n) + 8
+    p + 2 * graph::pairs_of(n) + 8
 }
 
 // The trailer of a sheet that has one.
@@ -104,7 +114,7 @@ fn trailer_of(sheet: &[u8]) -> Trailer
     let end = sheet.len();
     Trailer {
         p: number4(sheet, end - 8),
-        n: number2(sheet, end - 4) as usize,
+        n: usize::from(number2(sheet, end - 4)),
         t: signed2(sheet, end - 2),
     }
 }
@@ -133,6 +143,6 @@ pub fn checked(sheet: &[u8]) -> Result<Trailer, Refusal>
     ensures trailer { IfOk result (λ h. h ≡ trailer_of sheet.now) }
 {
     let trailer = laid_out(sheet)?;
-    scale::scale_fault(trailer.n, trailer.t, |k| score_at(sheet, trailer.p, k))?;
+    scale::all_on_scale(trailer.n, trailer.t, |k| score_at(sheet, trailer.p, k))?;
     Ok(trailer)
 }

@@ -5,6 +5,8 @@ use graph::Refusal;
 use scores::Trailer;
 use std::io;
 
+// The three calls' answers. Not one function over T: each Ok prints words of its own, and one for all would take a type with a
+// Display for each.
 fn drawing(rt: &impl Print, name: &str, drawn: Result<(), Refusal>) -> io::Result<()> {
     match drawn {
         Ok(()) => println!(rt; "{name} done"),

@@ -13,15 +13,15 @@ returns-in_err-trailer c =
     let back : c.from_residual.result ≡ Err c.in_err-trailer.field-0.0 = search rules in
     rw back (refused_sheet c.args.sheet.now c.args.scores.now c.in_err-trailer.ensures.refused)
 
-pub half_of-requires : goal.half_of-requires
-half_of-requires c =
+pub pairs_of-requires : goal.pairs_of-requires
+pairs_of-requires c =
     let h = c.in_ok-trailer.ensures in
     omega (arith, (sound c.args.sheet.now h.refused).0.few, ap (λ (x : Trailer). x.n) h.trailer)
 
-pub returns-then-scores-half_of : goal.returns-then-scores-half_of
-returns-then-scores-half_of c =
+pub returns-then-scores-pairs_of : goal.returns-then-scores-pairs_of
+returns-then-scores-pairs_of c =
     let h = c.in_ok-trailer.ensures in
-    let room = c.half_of.ensures ∙ ap (λ (x : Trailer). half x.n) h.trailer in
+    let room = c.pairs_of.ensures ∙ ap (λ (x : Trailer). half x.n) h.trailer in
     refused_room c.args.sheet.now c.args.scores.now h.refused (omega arith)
 
 pub take_scores-requires-clause-n_bound : goal.take_scores-requires-clause-n_bound
@@ -37,5 +37,5 @@ take_scores-requires-clause-sheet_len c =
 pub returns : goal.returns
 returns c =
     let h = c.in_ok-trailer.ensures in
-    let room = c.half_of.ensures ∙ ap (λ (x : Trailer). half x.n) h.trailer in
+    let room = c.pairs_of.ensures ∙ ap (λ (x : Trailer). half x.n) h.trailer in
     read_all c.args.sheet.now c.args.scores.now h.refused (omega arith) h.trailer c.take_scores.ensures

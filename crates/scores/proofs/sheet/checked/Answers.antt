@@ -15,23 +15,23 @@ returns-in_err-trailer-clause-refused c =
     let back : c.from_residual.result ≡ Err c.in_err-trailer.field-0.0 = search rules in
     ap refusal back ∙ layout_refused c.args.sheet.now c.in_err-trailer.ensures.refused
 
-pub scale_fault-requires-clause-n_bound : goal.scale_fault-requires-clause-n_bound
-scale_fault-requires-clause-n_bound c =
+pub all_on_scale-requires-clause-n_bound : goal.all_on_scale-requires-clause-n_bound
+all_on_scale-requires-clause-n_bound c =
     let h = c.in_ok-trailer.ensures in
     omega (arith, (laid c.args.sheet.now h.refused).few, ap (λ (x : Trailer). x.n) h.trailer)
 
-pub scale_fault-requires-clause-callable : goal.scale_fault-requires-clause-callable
-scale_fault-requires-clause-callable c k few =
+pub all_on_scale-requires-clause-callable : goal.all_on_scale-requires-clause-callable
+all_on_scale-requires-clause-callable c k few =
     let h = c.in_ok-trailer.ensures in
     let inside = score_inside c.args.sheet.now h.trailer h.refused few in
     search rules
 
-pub returns-in_err-scale_fault-clause-refused : goal.returns-in_err-scale_fault-clause-refused
-returns-in_err-scale_fault-clause-refused c =
-    let back : c.from_residual-in_err-scale_fault.result ≡ Err c.in_err-scale_fault.field-0.0 = search rules in
+pub returns-in_err-all_on_scale-clause-refused : goal.returns-in_err-all_on_scale-clause-refused
+returns-in_err-all_on_scale-clause-refused c =
+    let back : c.from_residual-in_err-all_on_scale.result ≡ Err c.in_err-all_on_scale.field-0.0 = search rules in
     let h = c.in_ok-trailer.ensures in
     let t = to_z-of_z w16 c.in_ok-trailer.trailer.t (search rules) in
-    let told = c.in_err-scale_fault.ensures (scores_of c.args.sheet.now) (λ k s few q.
+    let told = c.in_err-all_on_scale.ensures (scores_of c.args.sheet.now) (λ k s few q.
     score_listed c.args.sheet.now h.trailer few (search rules)) in
     ap refusal back ∙ scale_told c.args.sheet.now h.trailer h.refused t told
 
@@ -39,6 +39,6 @@ pub returns-clause-refused : goal.returns-clause-refused
 returns-clause-refused c =
     let h = c.in_ok-trailer.ensures in
     let t = to_z-of_z w16 c.in_ok-trailer.trailer.t (search rules) in
-    let told = c.in_ok-scale_fault.ensures (scores_of c.args.sheet.now) (λ k s few q.
+    let told = c.in_ok-all_on_scale.ensures (scores_of c.args.sheet.now) (λ k s few q.
     score_listed c.args.sheet.now h.trailer few (search rules)) in
     scale_told c.args.sheet.now h.trailer h.refused t told

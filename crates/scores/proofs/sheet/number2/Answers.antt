@@ -1,9 +1,10 @@
 -- `number2` meets its contract: two bytes, low byte first. Assumes nothing.
-use native.Mathlib.Omega.{arith}
-use Rattle.scores.proofs.Fields.{field_two}
+use mathlib.Core.Path.{◌∙◌, ap}
+use Rattle.scores.proofs.Fields.{number_two}
+use Rattle.scores.specs.Sheet.{number, field}
 use Rattle.scores.proofs.sheet.number2.Goals as goal
 
 pub returns : goal.returns
+unfolding field
 returns c =
-    let e = c.from_le_bytes.ensures in
-    omega (arith, field_two c.args.s.now c.args.at (omega arith))
+    c.from_le_bytes.ensures ∙ number_two c.bytes.result (search c) ∙ ap number c.bytes.ensures

@@ -1,9 +1,10 @@
 -- `number4` meets its contract: four bytes, low byte first. Assumes nothing.
-use native.Mathlib.Omega.{arith}
-use Rattle.scores.proofs.Fields.{field_four}
+use mathlib.Core.Path.{◌∙◌, ap}
+use Rattle.scores.proofs.Fields.{number_four}
+use Rattle.scores.specs.Sheet.{number, field}
 use Rattle.scores.proofs.sheet.number4.Goals as goal
 
 pub returns : goal.returns
+unfolding field
 returns c =
-    let e = c.from_le_bytes.ensures in
-    omega (arith, field_four c.args.s.now c.args.at (omega arith))
+    c.from_le_bytes.ensures ∙ number_four c.bytes.result (search c) ∙ ap number c.bytes.ensures

@@ -15,7 +15,7 @@ loop-k-preserved c =
     let n : ℕ = c.args.n in
     let f : ℕ → ℤ = score_at c.args.sheet.now c.args.p in
     let v = back c.score_at.result c.score_at.type_inv ∙ c.score_at.ensures in
-    let h = c.half_of.ensures in
+    let h = c.pairs_of.ensures in
     part_more c.args.scores.now (scores_in c.args.sheet.now c.args.p n) (length_each (half n) f) h c.requires.n_in_bounds l.k l.invariant (pos 0)
     c.loop-k-test.true (λ few. v ∙ sym (each_at (half n) f l.k (pos 0) few))
 
@@ -24,5 +24,5 @@ returns c =
     let l = c.loop-k in
     let n : ℕ = c.args.n in
     let f : ℕ → ℤ = score_at c.args.sheet.now c.args.p in
-    part_complete c.args.scores.now (scores_in c.args.sheet.now c.args.p n) (length_each (half n) f) c.half_of.ensures c.requires.n_in_bounds l.k l.invariant
+    part_complete c.args.scores.now (scores_in c.args.sheet.now c.args.p n) (length_each (half n) f) c.pairs_of.ensures c.requires.n_in_bounds l.k l.invariant
     l.auto.k-end c.loop-k-test.false

@@ -8,6 +8,6 @@ pub returns : goal.returns
 unfolding notes_of size_of threshold_of
 returns c =
     let p = c.number4.ensures in
-    let n = c.number2.ensures in
+    let n = c.from.ensures ∙ c.number2.ensures in
     let t = back c.signed2.result c.signed2.type_inv ∙ c.signed2.ensures in
     (λ i. record { p = p i; n = n i; t = t i })

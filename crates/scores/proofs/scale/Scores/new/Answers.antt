@@ -14,14 +14,14 @@ unfolding too_many
 returns-then-n-gt128-clause-refused c =
     hit TooManyVertices _ (lt-ltb _ _ c.if-n-gt128.true)
 
-pub returns-then-list-half_of-clause-refused : goal.returns-then-list-half_of-clause-refused
+pub returns-then-list-pairs_of-clause-refused : goal.returns-then-list-pairs_of-clause-refused
 unfolding too_many wrong_count
-returns-then-list-half_of-clause-refused c =
-    hit WrongLength [] (not_in (ne_eqb _ _ (λ e. c.if-list-half_of.true (e ∙ sym c.half_of.ensures))))
+returns-then-list-pairs_of-clause-refused c =
+    hit WrongLength [] (not_in (ne_eqb _ _ (λ e. c.if-list-pairs_of.true (e ∙ sym c.pairs_of.ensures))))
     ∙ pass TooManyVertices _ (le-ltb _ _ c.if-n-gt128.false)
 
 pub returns-clause-refused : goal.returns-clause-refused
 unfolding too_many wrong_count
 returns-clause-refused c =
-    done ∙ pass WrongLength [] (not_off (eq-eqb _ _ (c.if-list-half_of.false ∙ c.half_of.ensures)))
+    done ∙ pass WrongLength [] (not_off (eq-eqb _ _ (c.if-list-pairs_of.false ∙ c.pairs_of.ensures)))
     ∙ pass TooManyVertices _ (le-ltb _ _ c.if-n-gt128.false)

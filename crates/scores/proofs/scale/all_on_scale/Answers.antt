@@ -4,7 +4,7 @@ use mir.ValLaws.{to_z-of_z}
 use native.Mathlib.Omega.{arith}
 use Rattle.scores.proofs.ScoreFaults.{one_more_on, tried, scores_fine, scores_fault, threshold_fault, scores_next}
 use Rattle.scores.specs.Scale.{on_scale}
-use Rattle.scores.proofs.scale.scale_fault.Goals as goal
+use Rattle.scores.proofs.scale.all_on_scale.Goals as goal
 
 pub returns-then-not-on_scale : goal.returns-then-not-on_scale
 returns-then-not-on_scale g c xs is =

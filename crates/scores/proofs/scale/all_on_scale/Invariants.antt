@@ -1,9 +1,9 @@
--- `scale_fault` meets its contract. The loops' invariants: the scores above row `i`, and those of row `i` before column `j`, are on
+-- `all_on_scale` meets its contract. The loops' invariants: the scores above row `i`, and those of row `i` before column `j`, are on
 -- the scale, whatever list `score` gives the scores of. Assumes nothing.
 use Rattle.std.proofs.Common.{◌≡◌, ℕ, List, ◌<◌, get_or, ℤ, pos}
 use Rattle.scores.proofs.ScoreFaults.{RowsOn, RowOn}
 use Rattle.scores.specs.Scale.{half}
-use Rattle.scores.proofs.scale.scale_fault.Given as goal
+use Rattle.scores.proofs.scale.all_on_scale.Given as goal
 
 abbrev pub invariant-loop-j : goal.invariant-loop-j
 invariant-loop-j g l =
