@@ -1,5 +1,6 @@
 // A quad is visited: where none of its six pairs is used, its free pairs are laid, one at a time from the last, and the
-// lowest of their costs is added to the sum. A sum that passes the room ends as `None`.
+// lowest of their costs is added to the sum. A sum that passes the room ends as `None`. The bounds of the four vertices stay
+// clauses: `graph::Quad` is public, so an invariant of it would ask more of its callers.
 ghost use Rattle.std.specs.Prelude.{◌≡◌, ◌&&◌, ◌||◌, ℕ, ◌+◌, ◌*◌, ◌≤◌, ◌<◌, length, eqb};
 ghost use Rattle.graph.specs.Graph.{word_edge};
 ghost use Rattle.repair.specs.Packing.{hopeless};
@@ -83,7 +84,14 @@ impl<'a> Walk<'a> {
             (fee self.now.cost.now q.a q.b q.c q.d) taken.new result }
     {
         let mut low = 4294967295; // document 01's bound where no pair is free (`fee`)
-        for (x, y) in [(q.c, q.d), (q.b, q.d), (q.b, q.c), (q.a, q.d), (q.a, q.c), (q.a, q.b)] {
+        for (x, y) in [
+            (q.c, q.d),
+            (q.b, q.d),
+            (q.b, q.c),
+            (q.a, q.d),
+            (q.a, q.c),
+            (q.a, q.b),
+        ] {
             low = self.lay(taken, x, y, low);
         }
         low
