@@ -83,15 +83,9 @@ impl<'a> Walk<'a> {
         ensures { Laid (laid_all self.now.cost.now q.a q.b q.c q.d (word_edge taken.old))
             (fee self.now.cost.now q.a q.b q.c q.d) taken.new result }
     {
+        let Quad { a, b, c, d } = q;
         let mut low = 4294967295; // document 01's bound where no pair is free (`fee`)
-        for (x, y) in [
-            (q.c, q.d),
-            (q.b, q.d),
-            (q.b, q.c),
-            (q.a, q.d),
-            (q.a, q.c),
-            (q.a, q.b),
-        ] {
+        for (x, y) in [(c, d), (b, d), (b, c), (a, d), (a, c), (a, b)] {
             low = self.lay(taken, x, y, low);
         }
         low
