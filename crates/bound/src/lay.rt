@@ -1,10 +1,11 @@
 // A quad is visited: where none of its six pairs is used, its free pairs are laid, one at a time from the last, and the
-// lowest of their costs is added to the sum. A sum that passes the room ends as `None`.
+// lowest of their costs is added to the sum. A sum that passes the room ends as `None`. The bounds of the four vertices stay
+// clauses: `graph::Quad` is public, so an invariant of it would ask more of its callers.
 ghost use Rattle.std.specs.Prelude.{◌≡◌, ◌&&◌, ◌||◌, ℕ, ◌+◌, ◌*◌, ◌≤◌, ◌<◌, length, eqb};
 ghost use Rattle.graph.specs.Graph.{word_edge};
 ghost use Rattle.repair.specs.Packing.{hopeless};
 ghost use Rattle.bound.specs.Pass.{cost_of, laid, lower, laid_all, fee, touched, visit, held};
-ghost use Rattle.bound.specs.Leaves.{Marked, Laid, Ready, Left};
+ghost use Rattle.bound.specs.Leaves.{Marked, Laid, Left};
 
 use crate::Walk;
 use graph::Quad;
@@ -12,8 +13,7 @@ use graph::Quad;
 // The entry at row x, column y is used.
 fn mark_entry(taken: &mut [u64; 256], x: usize, y: usize)
     requires { (x < 128) × (y < 128) }
-    ensures { (length taken.new ≡ 256)
-        × ((i j : ℕ) → word_edge taken.new i j ≡ ((eqb i x && eqb j y) || word_edge taken.old i j)) }
+    ensures { (i j : ℕ) → word_edge taken.new i j ≡ ((eqb i x && eqb j y) || word_edge taken.old i j) }
 {
     // A word's place, as in `graph::rows::toggle_entry`: no shared function, as each contract names its own change.
     let p = 2 * x + y / 64;
@@ -83,8 +83,9 @@ impl<'a> Walk<'a> {
         ensures { Laid (laid_all self.now.cost.now q.a q.b q.c q.d (word_edge taken.old))
             (fee self.now.cost.now q.a q.b q.c q.d) taken.new result }
     {
+        let Quad { a, b, c, d } = q;
         let mut low = 4294967295; // document 01's bound where no pair is free (`fee`)
-        for (x, y) in [(q.c, q.d), (q.b, q.d), (q.b, q.c), (q.a, q.d), (q.a, q.c), (q.a, q.b)] {
+        for (x, y) in [(c, d), (b, d), (b, c), (a, d), (a, c), (a, b)] {
             low = self.lay(taken, x, y, low);
         }
         low
@@ -92,7 +93,7 @@ impl<'a> Walk<'a> {
 
     // The quad q is visited: the sum after it, `None` where that is past the room.
     pub fn visit(&self, taken: &mut [u64; 256], q: Quad, total: u32) -> Option<u32>
-        requires ready { Ready taken.old total self.now.room }
+        requires ready { total ≤ self.now.room }
         requires q_bound { (q.a < 128) × (q.b < 128) × (q.c < 128) × (q.d < 128) }
         ensures { Left self.now.room (visit self.now.cost.now q.a q.b q.c q.d (held taken.old total)) taken.new result }
     {

@@ -6,7 +6,7 @@ use Rattle.bound.proofs.Walk.lay.Goals as goal
 pub returns-then-p-ge-FIXED : goal.returns-then-p-ge-FIXED
 returns-then-p-ge-FIXED c =
     let p = c.cost_of-p.ensures in
-    lay_none _ _ _ _ c.told-taken (dear _ _ _ p c.if-p-ge-FIXED.true)
+    lay_none _ _ _ _ (dear _ _ _ p c.if-p-ge-FIXED.true)
 
 pub returns : goal.returns
 returns c =

@@ -6,7 +6,7 @@ use Rattle.bound.proofs.Walk.lay_all.Goals as goal
 
 pub loop-x-init : goal.loop-x-init
 loop-x-init c =
-    record { many = c.told-taken; edges = refl; lowest = refl }
+    record { edges = refl; lowest = refl }
 
 pub loop-x-preserved : goal.loop-x-preserved
 loop-x-preserved c =

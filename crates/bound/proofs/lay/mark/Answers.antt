@@ -4,5 +4,4 @@ use Rattle.bound.proofs.lay.mark.Goals as goal
 
 pub returns : goal.returns
 returns c =
-    let there = c.mark_entry-2.ensures in
-    marked_both _ _ _ _ c.mark_entry.ensures.1 there.0 there.1
+    marked_both _ _ _ _ c.mark_entry.ensures c.mark_entry-2.ensures
