@@ -4,7 +4,8 @@ ghost use Rattle.std.specs.Prelude.{◌≡◌, length};
 use memory::trail::Trail;
 
 // The words of the graph as it is at the present node, the table of costs, the path to the node, and the repair that is kept.
-// Fixed memory, no heap: the lists are document 01's two, of 8,128 pair numbers each. The tally says how many are kept.
+// Fixed memory, no heap: the lists are document 01's two, of 8,128 pair numbers each. How many are kept is the
+// tally's Option, which tells nothing kept from the empty repair: a Trail would say the number twice.
 #[derive(Drop)]
 pub struct Room {
     pub words: [u64; 256],
