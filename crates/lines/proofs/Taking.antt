@@ -13,7 +13,7 @@ use Rattle.std.specs.Prelude.{Result, Ok, Err}
 use Rattle.graph.specs.declared.Refusal.{Refusal}
 use Rattle.graph.specs.declared.Refusal.TheVariants.{NoRoom, BadSheet}
 use Rattle.graph.specs.Graph.{edge}
-use Rattle.graph.specs.Refusal.{Finding, number, row_at, column_at, first_of, refusal}
+use Rattle.graph.specs.Refusal.{Finding, number, row_at, column_at, first_of, refusal, number_of, row_of, column_of}
 use Rattle.graph.proofs.Refusals.{first_of_next, first_of_here, first_of_single, row_holds, row_passes}
 use Rattle.repair.specs.Repair.{toll_of}
 use Rattle.scores.specs.declared.Trailer.{Trailer}
@@ -56,10 +56,17 @@ module _ (sheet : List ℕ) where
         same_fault = read_fault ∙ sym (wide (sheet_fault sheet) refl) ∙ sym told.refused
 
         -- "any refusal prints one line"
-        pub refused_paged :
+        pub refusal_paged :
             {now : List ℕ} {why : Refusal} → r ≡ Err why →
             now ≡ refusal_line (number why) (row_at why) (column_at why) → Lines sheet now
-        refused_paged {now} e put = lines now (same_fault ∙ ap refusal e) put
+        refusal_paged {now} e put = lines now (same_fault ∙ ap refusal e) put
+
+        pub refused_paged :
+            {now : List ℕ} {why : Refusal} → r ≡ Err why →
+            now ≡ refusal_line (number_of (refusal r)) (row_of (refusal r)) (column_of (refusal r)) → Lines sheet now
+        refused_paged {now} e put =
+            refusal_paged e
+            (put ∙ ap (λ (x : Result Trailer Refusal). refusal_line (number_of (refusal x)) (row_of (refusal x)) (column_of (refusal x))) e)
 
         -- the sheet is read
         module _ {h : Trailer} {u : ℤ} (e : r ≡ Ok h) (same : u ≡ h.t) where

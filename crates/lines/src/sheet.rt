@@ -1,7 +1,7 @@
 // The lines of a sheet: what the reader refuses, the search, the repair and its forest.
 // n and the lent bytes stay two parameters, as `to_graph`, `pruned` and `forest` take them: a struct would be taken apart
 // at each of these calls. `as usize` widens a u32: usize has no From<u32>.
-ghost use Rattle.std.specs.Prelude.{◌≡◌, true, [], ◌++◌, ◌+◌, ◌*◌, ◌≤◌, ◌<◌, length, take, ℤ};
+ghost use Rattle.std.specs.Prelude.{◌≡◌, true, [], ◌++◌, ◌+◌, ◌*◌, ◌≤◌, ◌<◌, length, take};
 ghost use Rattle.graph.specs.Graph.{edge, IsGraph};
 ghost use Rattle.graph.specs.Check.{entries};
 ghost use Rattle.graph.specs.Quad.{Clean};
@@ -10,7 +10,7 @@ ghost use Rattle.repair.specs.Pair.{is_pair, all, ascending};
 ghost use Rattle.repair.specs.Repair.{toggled, toll_of};
 ghost use Rattle.scores.specs.Scale.{half, on_scale, scores_off, edge_byte, price_entry, square};
 ghost use Rattle.lines.specs.Lines.{refusal_line, tree_lines};
-ghost use Rattle.lines.specs.Inner.{drawn_of, first_lines, repair_lines, Checked, Ready};
+ghost use Rattle.lines.specs.Inner.{drawn_of, repair_lines, Checked, Ready};
 ghost use Rattle.lines.specs.Report.{Searched, Lines};
 
 use crate::page::{Page, ROOM};

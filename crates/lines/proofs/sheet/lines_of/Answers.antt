@@ -5,7 +5,7 @@ use mathlib.Core.Path.{refl}
 use mir.Syntax.{w16}
 use mir.ValLaws.{to_z-of_z}
 use Rattle.scores.proofs.OnScale.{on_fits}
-use Rattle.lines.proofs.Taking.{long_paged, refused_paged, listed_right, listed_paged}
+use Rattle.lines.proofs.Taking.{long_paged, refusal_paged, listed_right, listed_paged}
 use Rattle.lines.proofs.sheet.lines_of.Goals as goal
 
 pub returns-then-sheet-gt49032 : goal.returns-then-sheet-gt49032
@@ -14,7 +14,7 @@ returns-then-sheet-gt49032 c =
 
 pub returns-in_default : goal.returns-in_default
 returns-in_default c =
-    refused_paged c.args.sheet.now c.if-sheet-gt49032.false _ (length-replicate {A = ℤ} 8128 (pos 0)) c.read-read.ensures c.unwrap_err.ensures c.refused-in_default.ensures
+    refusal_paged c.args.sheet.now c.if-sheet-gt49032.false _ (length-replicate {A = ℤ} 8128 (pos 0)) c.read-read.ensures c.unwrap_err.ensures c.refused-in_default.ensures
 
 pub listed-requires : goal.listed-requires
 listed-requires c =
