@@ -1,5 +1,6 @@
 // One-word operations on u64 by shift and mask: adjacency tests, toggles and intersections on a row's words.
 // Each contract says every bit of the answer, by the one definition `bit` of specs/Bit.
+// `i < 64` stays a clause: README names this crate's operations, and a type for i would ask more of callers.
 #![tactic(auto)]
 
 ghost use Rattle.std.specs.Prelude.{◌≡◌, not, ◌&&◌, ◌||◌, ℕ, ◌<◌, ◌≤◌, eqb, leb};

@@ -1,6 +1,7 @@
 // A quad is visited: where none of its six pairs is used, its free pairs are laid, one at a time from the last, and the
 // lowest of their costs is added to the sum. A sum that passes the room ends as `None`. The bounds of the four vertices stay
 // clauses: `graph::Quad` is public, so an invariant of it would ask more of its callers.
+// That x, y, a, b, c are below 128 stays a clause, here and in pack.rt: they come out of `Row::pop` as numbers.
 ghost use Rattle.std.specs.Prelude.{◌≡◌, ◌&&◌, ◌||◌, ℕ, ◌+◌, ◌*◌, ◌≤◌, ◌<◌, length, eqb};
 ghost use Rattle.graph.specs.Graph.{word_edge};
 ghost use Rattle.repair.specs.Packing.{hopeless};
@@ -54,6 +55,7 @@ fn touched_of(taken: &[u64; 256], q: Quad) -> bool
 
 impl<'a> Walk<'a> {
     // What the pair of x and y costs.
+    // `memory::table::place` has this place as a u16, a crate higher; its clause is `pair_of`, this one's `cost_of`.
     #[tactic(auto, unfolding(crate::specs::Pass::cost_of))]
     fn cost_of(&self, x: usize, y: usize) -> u16
         requires { (x < 128) × (y < 128) }

@@ -25,6 +25,7 @@ struct Walk<'a> {
 }
 
 // The bound of a graph and prices that passed their checks.
+// The three stay parameters, as `bound` is lent them and `rows_of` and `costs` take them.
 fn packing_of(n: usize, g: &[u8], prices: &[u16]) -> u32
     requires n_bound { (n ≤ 128) × (length g.now ≡ n * n) × (length prices.now ≡ n * n) }
     requires g_value { (entries n g.now ≡ Ok tt) × (price_entries n prices.now ≡ Ok tt) }
@@ -41,6 +42,7 @@ fn packing_of(n: usize, g: &[u8], prices: &[u16]) -> u32
 pub fn bound(n: usize, g: &[u8], prices: &[u16]) -> Result<u32, Refusal>
     ensures { Promise n g.now prices.now result }
 {
+    // The tests stand here and in `search::check`, not in one call: what follows wants n and the lengths as facts.
     if 128 < n {
         return Err(Refusal::TooManyVertices);
     }

@@ -18,6 +18,7 @@ fn allowed(i: usize, j: usize, p: u16) -> bool
 }
 
 // The price at row i, column j.
+// n and the prices stay two parameters, here and below: docs/CONTRACTS.md names `price_entries` and `costs` so.
 #[tactic(auto, using(graph::proofs::CheckLaws::inside), unfolding(graph::specs::Price::price_entry, bits::specs::Choice::pick))]
 fn price_entry(n: usize, prices: &[u16], i: usize, j: usize) -> Result<(), Refusal>
     requires n_bound { n ≤ 128 }
@@ -44,6 +45,7 @@ pub fn price_entries(n: usize, prices: &[u16]) -> Result<(), Refusal>
 }
 
 // The working table of costs from the prices.
+// 65,535 stands where no pair may be changed: document 01, the definition `Costs`, docs/CONTRACTS.md.
 pub fn costs(n: usize, prices: &[u16]) -> [u16; 16384]
     requires n_bound { n ≤ 128 }
     requires prices_len { length prices.now ≡ n * n }

@@ -6,7 +6,7 @@ use forest::Answer;
 use graph::{Quad, Refusal};
 use std::{array, fmt, io};
 
-// A parent, `-` for none.
+// A parent as `forest`'s list has it, document 01's 65,535 for none; that is printed as `-`.
 #[derive(Drop)]
 struct Parent(u16);
 

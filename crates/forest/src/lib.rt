@@ -43,6 +43,7 @@ fn planted(graph: &Graph, out: &mut [u16]) -> usize
 }
 
 // The answer for a graph that passed its checks, with room for its forest.
+// n and the bytes stay two parameters, as `forest` is lent them and `rows_of` takes them.
 fn judged(n: usize, g: &[u8], out: &mut [u16]) -> Answer
     requires { (n ≤ 128) × (length g.now ≡ n * n) × (n ≤ length out.old) × IsGraph n (edge n g.now) }
     ensures { Meant n g.now out.old (Ok result) out.new }
@@ -61,6 +62,7 @@ fn judged(n: usize, g: &[u8], out: &mut [u16]) -> Answer
 pub fn forest(n: usize, g: &[u8], out: &mut [u16]) -> Result<Answer, Refusal>
     ensures { Promise n g.now out.old result out.new }
 {
+    // 1 and 2 stand here too: in `bound` and `search` the prices' length comes before 3, so no one call serves all three.
     if 128 < n {
         return Err(Refusal::TooManyVertices);
     }

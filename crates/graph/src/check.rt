@@ -33,6 +33,7 @@ fn most(i: usize, j: usize) -> u8
 }
 
 // The entry at row i, column j.
+// n and the bytes stay two parameters: every entry point is lent them so, and a struct would serve one call.
 fn entry_of(n: usize, g: &[u8], i: usize, j: usize) -> Result<(), Refusal>
     requires n_bound { n ≤ 128 }
     requires g_len { length g.now ≡ n * n }

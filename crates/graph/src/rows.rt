@@ -7,6 +7,7 @@ ghost use Rattle.graph.specs.Graph.{edge, word_edge};
 ghost use Rattle.graph.specs.Rows.{IsRow, Rowed, Flat, OneWay, Toggled};
 
 // Is there an edge from vertex i to j, which may be no vertex?
+// n and the bytes stay two parameters, here and below: docs/PROMISES.md names `rows_of`, which is lent them so.
 fn edge_of(n: usize, g: &[u8], i: usize, j: usize) -> bool
     requires n_bound { n ≤ 128 }
     requires g_len { length g.now ≡ n * n }
@@ -79,8 +80,8 @@ pub fn flat_of(rows: [[u64; 2]; 128]) -> [u64; 256]
     words
 }
 
-// Are x and y adjacent? The words are a slice, here and below: callers lend a part of their memory, and a narrower type
-// would ask more of them.
+// Are x and y adjacent? The words are a slice, here and below: docs/PROMISES.md names `adjacent` and `toggle`, and a
+// narrower type would ask more of callers.
 pub fn adjacent(words: &[u64], x: usize, y: usize) -> bool
     requires words_len { length words.now ≡ 256 }
     requires x_bound { x < 128 }

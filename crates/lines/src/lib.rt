@@ -13,6 +13,7 @@ use graph::Refusal;
 use page::Page;
 
 // The lines of any input, from the text's start, and their length.
+// Lent memory and a length, no Vec: docs/CONTRACTS.md, `Ok(size)`.
 pub fn report(sheet: &[u8], text: &mut [u8]) -> Result<usize, Refusal>
     ensures { Promise sheet.now text.old result text.new }
 {

@@ -1,4 +1,4 @@
-// The repaired graph: the listed pairs toggled in the graph's bytes.
+// The repaired graph: the listed pairs toggled in the graph's bytes. n and the lent bytes stay two parameters: sheet.rt says why.
 ghost use Rattle.std.specs.Prelude.{◌≡◌, true, ◌+◌, ◌*◌, ◌/◌, ◌%◌, ◌≤◌, ◌<◌, length};
 ghost use Rattle.graph.specs.Graph.{edge};
 ghost use Rattle.repair.specs.Pair.{is_pair, all, ascending};

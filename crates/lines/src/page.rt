@@ -11,6 +11,7 @@ use std::marker::Model;
 pub const ROOM: usize = 131072;
 
 // An array with its end beside it: the project's rule of fixed memory leaves no String.
+// No type shared with memory's `Trail`: that puts in order and takes out, this appends; they share two fields alone.
 #[derive(Drop)]
 pub struct Page {
     text: [u8; ROOM],
@@ -44,6 +45,8 @@ impl Page {
         &self.text[..self.end]
     }
 
+    // Not by `write!`, here and below: it may fail, and nothing that it promises says when it does not.
+    // `.. ≤ ROOM` is a clause of each, in repaired.rt and sheet.rt too: it is of the text that the function writes.
     // The bytes of a word.
     pub fn put(&mut self, word: &[u8])
         requires { length self.old + length word.now ≤ ROOM }

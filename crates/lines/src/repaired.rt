@@ -1,4 +1,5 @@
-// The lines of a repair: the pairs that it changes, the parents of the repaired graph, and what goes around them.
+// The lines of a repair: the pairs that it changes, the parents of the repaired graph, and what goes around them. n and
+// the lent bytes stay two parameters: sheet.rt says why.
 ghost use Rattle.std.specs.Prelude.{◌≡◌, ℕ, ◌+◌, ◌*◌, ◌≤◌, ◌<◌, ◌++◌, length, get_or};
 ghost use Rattle.graph.specs.Each.{each};
 ghost use Rattle.graph.specs.Graph.{edge};
@@ -32,6 +33,7 @@ pub fn changes(page: &mut Page, n: usize, graph: &[u8], repair: &[u16])
 }
 
 // `parent V P`, or `parent V -` where there is none.
+// p is an entry of `forest`'s list, where document 01 has 65,535 for none; the definition `parent_line` takes it so.
 #[tactic(auto, unfolding(crate::specs::Lines::parent_line))]
 fn parent(page: &mut Page, v: usize, p: u16)
     requires { length page.old + length (parent_line v p) ≤ ROOM }

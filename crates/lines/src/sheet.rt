@@ -1,6 +1,6 @@
 // The lines of a sheet: what the reader refuses, the search, the repair and its forest.
-// n and the lent bytes stay two parameters, as `to_graph`, `pruned` and `forest` take them: a struct would be taken apart
-// at each of these calls. `as usize` widens a u32: usize has no From<u32>.
+// n, t, scores and the lent bytes stay parameters, as `to_graph`, `pruned` and `forest` take them: a struct would be taken
+// apart at each of these calls. `as usize` widens a u32: usize has no From<u32>.
 ghost use Rattle.std.specs.Prelude.{◌≡◌, true, [], ◌++◌, ◌+◌, ◌*◌, ◌≤◌, ◌<◌, length, take};
 ghost use Rattle.graph.specs.Graph.{edge, IsGraph};
 ghost use Rattle.graph.specs.Check.{entries};
@@ -53,6 +53,7 @@ fn mended(page: &mut Page, n: usize, graph: &mut [u8], repair: &[u16], cost: usi
 }
 
 // The search, and the lines of what it finds. It is not refused, and it finds a repair or is stopped.
+// That the page is empty is a clause, here and below: a type for it would turn into `Page` at the first word.
 fn searched(page: &mut Page, n: usize, graph: &mut [u8], prices: &[u16])
     requires checked { Checked n graph.old prices.now }
     requires empty { page.old ≡ [] }
@@ -96,6 +97,7 @@ fn drawn(page: &mut Page, n: usize, t: i16, scores: &[i16], graph: &mut [u8], pr
 }
 
 // The lines of a sheet of n vertices with the threshold t, whose scores are the list's first.
+// Fixed memory, no Vec: list, graph and prices are arrays, of which the first entries are lent on.
 fn listed(page: &mut Page, n: usize, t: i16, list: &[i16])
     requires n_bound { (n ≤ 128) × (half n ≤ length list.now) }
     requires t_value { (on_scale t ≡ true) × (Ok tt ≡ scores_off n (take (half n) list.now)) }
@@ -117,6 +119,7 @@ fn listed(page: &mut Page, n: usize, t: i16, list: &[i16])
 }
 
 // The line of what the reader refuses.
+// By `three`, not by Refusal's Display: `write!` may fail (page.rt).
 fn refused(page: &mut Page, refusal: Refusal)
     requires { page.old ≡ [] }
     ensures { page.new ≡ refusal_line (number refusal) (row_at refusal) (column_at refusal) }
@@ -142,6 +145,7 @@ pub fn lines_of(sheet: &[u8], page: &mut Page)
     }
     let mut list = [0i16; 8128];
     let read = scores::read(sheet, &mut list);
+    // `let .. else` and unwrap_err, no match: docs/PROMISES.md names this form ("takes the sheet's answer apart at once").
     let Ok(Trailer { n, t, .. }) = read else {
         return refused(page, read.unwrap_err());
     };

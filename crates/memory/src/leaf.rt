@@ -42,6 +42,7 @@ pub fn paid(above: u32, price: u16) -> u32
 }
 
 // Does the pruned engine leave the node?
+// Words, table and n, as `cut` takes them: a struct would be taken apart here. `prune`: search/src/tree.rt says why.
 pub fn leaves(words: &[u64], cost: &[u16], n: usize, prune: bool, spent: u32, limit: u32) -> bool
     requires words_len { (length words.now ≡ 256) × (length cost.now ≡ 16384) × (n ≤ 128) }
     requires graph { IsGraph n (word_edge words.now) }
@@ -51,6 +52,8 @@ pub fn leaves(words: &[u64], cost: &[u16], n: usize, prune: bool, spent: u32, li
 }
 
 // The pair at p is toggled, and its number put into the path, at the place that is returned.
+// The words are a slice, here and below, as `graph::rows::toggle` takes them. p is a number with clauses, in `leave`,
+// `number` and `search`'s `way` too: `places` gives six by the list `pairs_of`.
 pub fn enter(words: &mut [u64], path: &mut Trail, n: usize, p: usize) -> usize
     requires words_len { (length words.old ≡ 256) × (length path.old < 8128) × (n ≤ 128) × (p < 16384) }
     requires place { Place n p }
@@ -74,6 +77,7 @@ pub fn leave(words: &mut [u64], path: &mut Trail, n: usize, p: usize, at: usize)
 }
 
 // Is the repair of the path kept?
+// `Within` is a clause, in `keep` and `search::told` too: the tally goes by value (DECISIONS), apart from the list.
 fn improves(path: &[u16], kept: &[u16], spent: u32, t: Tally) -> bool
     requires { Within t.kept (length kept.now) }
     ensures { result ≡ improves path.now kept.now spent t }

@@ -15,6 +15,7 @@ fn place(x: usize, y: usize) -> u16
 }
 
 // The places of ab, ac, ad, bc, bd, cd.
+// The bounds of the four vertices stay clauses, as in bound/src/lay.rt: `graph::Quad` is public.
 pub fn places(q: graph::Quad) -> [u16; 6]
     requires { (q.a < 128) × (q.b < 128) × (q.c < 128) × (q.d < 128) }
     ensures { result ≡ pairs_of 128 q }
@@ -47,6 +48,7 @@ pub fn mark(cost: &mut [u16], p: usize) -> u16
 }
 
 // The costs at the six places.
+// The costs stand beside the places, in `restore` too, not in pairs: `Olds` and `Apart` speak of the two lists.
 pub fn costs(cost: &[u16], places: [u16; 6]) -> [u16; 6]
     requires { (w : ℕ) → w < 6 → get_or places w 0 < length cost.now }
     ensures { Olds cost.now places result }

@@ -23,6 +23,7 @@ fn read_full(input: &mut impl Read, sheet: &mut [u8]) -> io::Result<usize>
 }
 
 fn main(rt: HostRuntime) -> io::Result<()> {
+    // Fixed memory, no Vec: of the sheet the first `got` bytes count, of the text the first `size`.
     let mut sheet = [0u8; 49033];
     let got = read_full(&mut rt.stdin(), &mut sheet)?;
     let mut text = [0u8; 131072];

@@ -6,6 +6,7 @@ ghost use Rattle.std.specs.Prelude.{◌≤◌};
 
 use std::io;
 
+// Fixed memory, no Vec, here and below: an array, of which the first entries count.
 fn show(rt: &impl Print, name: &str, sheet: &[u8]) -> io::Result<()> {
     println!(rt; "== {name}")?;
     let mut text = [0; 131072];

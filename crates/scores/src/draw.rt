@@ -6,6 +6,7 @@ ghost use Rattle.scores.specs.Scale.{edge_byte, price_entry, square};
 use crate::scale::{self, Scores};
 
 // The graph's entry and the price at row i, column j.
+// That i and j are below n stays a clause: they count a loop, and a type would be made at each turn.
 fn entry(scores: &Scores, t: i16, i: usize, j: usize) -> (u8, u16)
     requires i_lt_n { i < scores.now.n }
     requires j_lt_n { j < scores.now.n }

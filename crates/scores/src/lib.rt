@@ -94,6 +94,7 @@ fn put_sheet(buf: &mut [u8], notes: &[u8], scores: &Scores, t: i16)
 }
 
 // Writes a sheet from the buffer's start, and gives its length.
+// Lent memory and a length, no Vec: docs/CONTRACTS.md, `Ok(size)`.
 pub fn write(
     notes: &[u8],
     scores: &[i16],

@@ -72,6 +72,7 @@ pub fn all_on_scale<F: Fn(usize) -> i16>(n: usize, t: i16, score: F) -> Result<(
 }
 
 // The scores of n vertices, of which there are at most 128: one for each pair.
+// t is no field: it is tried at 5, after 1 and 2, which make a `Scores` (in `write` 11 comes between).
 #[derive(Clone, Copy)]
 pub struct Scores<'a> {
     pub n: usize,

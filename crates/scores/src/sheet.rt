@@ -20,6 +20,7 @@ fn bytes<const N: usize>(s: &[u8], at: usize) -> [u8; N]
     s[at..at + N].try_into().unwrap()
 }
 
+// `number2`, `number4`, `signed2` stay three: std has from_le_bytes by type, no trait; docs/PROMISES.md names each.
 // The number in the two bytes at a place.
 pub fn number2(s: &[u8], at: usize) -> u16
     requires { at + 2 ≤ length s.now }
@@ -53,6 +54,7 @@ fn score_at(sheet: &[u8], p: usize, k: usize) -> i16
 }
 
 // The n(n-1)/2 scores behind p bytes of notes.
+// n and p are bounded by clauses, here and below: `laid_out` tries them one by one, and `Trailer` is public.
 pub fn take_scores(sheet: &[u8], p: usize, n: usize, scores: &mut [i16])
     requires n_bound { n ≤ 128 }
     requires sheet_len { length sheet.now ≡ sheet_length p n }

@@ -52,9 +52,11 @@ impl fmt::Display for Answer {
 }
 
 // The first refusal in the call's order whose row holds.
+// The parameters stay as the entry points have them, down to `engine`: docs/CONTRACTS.md, `Promise` and `checks`.
 fn check(n: usize, graph: &[u8], prices: &[u16], k: u32, list: &[u16]) -> Result<(), Refusal>
     ensures { result ≡ first_of (checks n graph.now prices.now k list.now) }
 {
+    // The first five as in `bound`: from a shared call 7 and 10 would want a lemma on the `first_of` of a list's parts.
     if 128 < n {
         return Err(Refusal::TooManyVertices);
     }
@@ -129,6 +131,7 @@ fn engine(
 }
 
 // Either engine: the checks, and then the search.
+// `prune` is a word, here and in `engine`: tree.rt says why.
 fn either(
     prune: bool,
     n: usize,
