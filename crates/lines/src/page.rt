@@ -45,9 +45,8 @@ impl Page {
         &self.text[..self.end]
     }
 
-    // Not by `write!`, here and below: it may fail, and nothing that it promises says when it does not.
+    // The bytes of a word. Not by `write!`, here and below: it may fail, and nothing that it promises says when it does not.
     // `.. ≤ ROOM` is a clause of each, in repaired.rt and sheet.rt too: it is of the text that the function writes.
-    // The bytes of a word.
     pub fn put(&mut self, word: &[u8])
         requires { length self.old + length word.now ≤ ROOM }
         ensures { self.new ≡ self.old ++ word.now }

@@ -16,8 +16,8 @@ pub struct Search {
 }
 
 impl Search {
-    // `IsReady` is a clause of all three: it is of room, price and tally together, and each of them changes on the way.
     // Entering a node is one step. A node with no quad is a repair; else its ways are tried, unless the node is left.
+    // `IsReady` is a clause of all three: it is of room, price and tally together, and each of them changes on the way.
     #[cycle(node_way_ways)]
     pub fn node(&self, room: &mut Room, spent: u32, t: Tally) -> Tally
         requires ready { IsReady self.now room.old spent t }
