@@ -3,5 +3,4 @@ pub mod Determined
 pub mod Digit
 pub mod Lowest
 pub mod Mask
-pub mod Scan
 pub mod Truth

@@ -25,8 +25,8 @@ pub record Grown (n : ℕ) (g out : List ℕ) (groups : ℕ) (after : List ℕ) 
   pub fits : Fits n (edge n g) (parent_in n after)
   pub trees : groups ≡ roots n (parent_in n after)
 
--- "On every refusal the list is unchanged"; not clean: "the first quad in listing order is returned and the lent forest is
--- unchanged"
+-- "On every refusal the list is unchanged"; not clean: "the answer is still 0" (`refusal`), "the first quad in listing order
+-- is returned and the lent forest is unchanged"
 abbrev pub Meant : ℕ → List ℕ → List ℕ → Result Answer Refusal → List ℕ → Type 0
 Meant n g out (Err r) after = after ≡ out
 Meant n g out (Ok (Spoiled q)) after = (first (quads n (edge n g)) ≡ Some q) × (after ≡ out)

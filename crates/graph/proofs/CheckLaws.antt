@@ -65,9 +65,6 @@ abbrev pub Quiet : (ℕ → List Finding) → ℕ → Type 0
 Quiet f k = (b : ℕ) → b < k → first_of (f b) ≡ Ok tt
 
 module _ (f : ℕ → List Finding) where
-  pub quiet_none : Quiet f 0
-  quiet_none b h = absurd (omega arith)
-
   pub quiet_next : (k : ℕ) → Quiet f k → first_of (f k) ≡ Ok tt → Quiet f (k + 1)
   quiet_next k before here = below_more _ k before here
 
