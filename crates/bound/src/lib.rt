@@ -33,7 +33,9 @@ fn packing_of(n: usize, g: &[u8], prices: &[u16]) -> u32
 {
     let rows = graph::rows::rows_of(n, g);
     let words = graph::rows::flat_of(rows);
-    let cost = prices::costs(n, prices);
+    // Filled where it stands: a table handed back would stand in this frame a second time.
+    let mut cost = [graph::FIXED; 16384];
+    prices::fill(n, prices, &mut cost);
     // The greatest room: a bound past it is document 01's 4,294,967,295, which is what `within` then gives.
     pack::within(&words, &cost, n, 4294967294)
 }

@@ -1,7 +1,7 @@
 // Prices: check 6, row by row, and the working table of costs. The callers check the size and the length first.
 ghost use Rattle.std.specs.Prelude.{◌≡◌, ◌*◌, ◌≤◌, ◌<◌, length};
 ghost use Rattle.graph.specs.Price.{priced, price_entry, price_entries};
-ghost use Rattle.bound.specs.Costs.{Costs};
+ghost use Rattle.bound.specs.Costs.{Costs, Filled};
 
 use graph::Refusal;
 
@@ -52,9 +52,20 @@ pub fn costs(n: usize, prices: &[u16]) -> [u16; 16384]
     ensures { Costs n prices.now result }
 {
     let mut cost = [graph::FIXED; 16384];
+    fill(n, prices, &mut cost);
+    cost
+}
+
+// The same table where it stands: lent memory that is 65,535 all over. `search::engine` fills its room so, as a table handed back
+// would stand in its frame beside the room (docs/STACK.md).
+pub fn fill(n: usize, prices: &[u16], cost: &mut [u16; 16384])
+    requires n_bound { n ≤ 128 }
+    requires prices_len { length prices.now ≡ n * n }
+    requires empty { Filled n prices.now 0 cost.old }
+    ensures { Costs n prices.now cost.new }
+{
     for i in 0..n {
         // the pairs of i and the vertices above it
         cost[i * 128 + i + 1..i * 128 + n].copy_from_slice(&prices[i * n + i + 1..i * n + n]);
     }
-    cost
 }

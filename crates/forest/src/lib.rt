@@ -49,11 +49,15 @@ fn judged(n: usize, g: &[u8], out: &mut [u16]) -> Answer
     ensures { Meant n g.now out.old (Ok result) out.new }
 {
     let rows = graph::rows::rows_of(n, g);
-    let words = graph::rows::flat_of(rows);
-    match graph::seek::first_quad(&words, n) {
+    // Made here and not where it is planted: the words would stand in this frame a second time.
+    let graph = Graph {
+        words: graph::rows::flat_of(rows),
+        n,
+    };
+    match graph::seek::first_quad(&graph.words, n) {
         Some(quad) => Answer::Spoiled(quad),
         None => Answer::Forest {
-            groups: planted(&Graph { words, n }, out),
+            groups: planted(&graph, out),
         },
     }
 }

@@ -93,6 +93,9 @@ module _ (n : ℕ) (g ps list : List ℕ) (ok : Checked n g ps) (room : length l
     abbrev is : Repair n (edge n g) (toll_of ps) found
     is = best.best.member
 
+    pub list_room : count ≤ length after
+    list_room = omega (arith, ap length best.written, length-append found (drop (length found) list), best.many)
+
     listed : take count after ≡ found
     listed = ap₂ take best.many best.written ∙ take_at found (drop (length found) list) (length found) refl
 

@@ -3,7 +3,8 @@ use mathlib.Core.Path.{◌≡◌, refl, sym, ap, ◌∙◌}
 use mathlib.Core.Logic.{◌⊎◌, inl, inr, ◌≢◌}
 use mathlib.Core.Bool.{true, false}
 use mathlib.Core.List.{List, [], ◌∷◌}
-use Prim.Native.Nat.{ℕ, zero, suc, ◌+◌, ◌<◌}
+use Prim.Native.Nat.{ℕ, zero, suc, ◌+◌, ◌*◌, ◌/◌, ◌≤◌, ◌<◌}
+use native.Mathlib.Nat.{mul-le-mul}
 use native.Mathlib.Omega.{arith}
 use native.Mathlib.Numerals.{add-one}
 use borrow.Author.Tests.{ne_eqb}
@@ -13,6 +14,10 @@ use Rattle.bits.proofs.Truth.{never, or_off, equal}
 use Rattle.repair.specs.Pair.{member}
 use Rattle.repair.proofs.Sets.{member_here, member_there}
 use Rattle.memory.specs.Table.{Apart}
+
+-- a row's first number
+pub row_small : (n p : ℕ) → n ≤ 128 → p < 16384 → p / 128 * n ≤ 16256
+row_small n p few fits = omega (arith, mul-le-mul {n₁ = p / 128} {m₁ = n} {n₂ = 127} {m₂ = 128} (omega arith) few)
 
 -- an entry of a list is a member
 pub entry_member : (xs : List ℕ) (i : ℕ) → i < length xs → member (get_or xs i 0) xs ≡ true

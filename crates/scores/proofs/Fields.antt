@@ -83,6 +83,9 @@ field_none s at = refl
 pub field_two : (s : List ℕ) (at : ℕ) → at + 2 ≤ length s → field s at 2 ≡ get_or s at 0 + 256 * get_or s (at + 1) 0
 field_two s at h = field_more s at 0 h ∙ omega (arith, field_none s (at + 2))
 
+pub field_four : (s : List ℕ) (at : ℕ) → at + 4 ≤ length s → field s at 4 ≡ field s at 2 + 65536 * field s (at + 2) 2
+field_four s at h = field_more s at 2 (omega arith) ∙ omega (arith, field_two s at (omega arith))
+
 -- what the kit reads from two and from four bytes
 pub number_two : (bs : List ℕ) → length bs ≡ 2 → from_le_bytes w16 bs ≡ number bs
 unfolding number

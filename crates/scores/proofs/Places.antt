@@ -60,6 +60,14 @@ half_small n h =
     let m : n * (n - 1) ≤ 128 * 127 = mul-le-mul h k in
     omega arith
 
+-- the place of a pair from that of the first pair of its row
+pub spot_after :
+    (n i j : ℕ) {e : ℕ} → i < j → j < n → e ≡ earlier n i → (e + (j - i - 1) ≡ spot n i j) × (spot n i j < half n)
+unfolding spot place
+spot_after n i j {e} p in_j before =
+    let at : spot n i j ≡ earlier n i + (j - suc i) = pick_true (place n i j) (place n j i) (lt-ltb i j p) in
+    (omega arith, rw at (place_below n p in_j))
+
 -- the place of a pair either way round, as the code computes it from the lesser of the two
 module _ (n i j : ℕ) (in-i : i < n) (in-j : j < n) (apart : i ≢ j) where
   pub spot_at : {a e : ℕ} → a ≡ min i j → e ≡ earlier n a → (e + abs_diff i j - 1 ≡ spot n i j) × (spot n i j < half n)

@@ -12,7 +12,7 @@ use borrow.Author.Tests.{lt-ltb, le-ltb, ltb-false, eq-eqb, ne_eqb, eqb-true, no
 use Rattle.bits.proofs.Truth.{not_in, not_off, or_left, or_right, or_off, or_off_left, or_off_right}
 use Rattle.std.specs.Prelude.{Ok, Err}
 use Rattle.graph.specs.declared.Refusal.{Refusal}
-use Rattle.graph.specs.declared.Refusal.TheVariants.{TooManyVertices, BadSheet}
+use Rattle.graph.specs.declared.Refusal.TheVariants.{TooManyVertices, OffScale, BadSheet}
 use Rattle.graph.specs.Refusal.{Finding, row, first_of}
 use Rattle.graph.specs.Check.{too_many}
 use Rattle.graph.proofs.Refusals.{first_of_single}
@@ -23,7 +23,7 @@ use Rattle.scores.specs.Sheet.{sheet_length, notes_of, size_of, threshold_of, sc
 use Rattle.scores.specs.Reader.{wrong_layout, layout_fault, sheet_fault}
 use Rattle.scores.proofs.Places.{half_twice}
 use Rattle.scores.proofs.Squares.{each_at}
-use Rattle.scores.proofs.ScoreFaults.{both_on}
+use Rattle.scores.proofs.ScoreFaults.{both_on, threshold_fault}
 use Rattle.scores.proofs.Checking.{hit, pass, done, fine_out, fine_first, decided, left_over}
 
 -- the length, and p
@@ -95,6 +95,9 @@ module _ (sheet : List ℕ) where
   pub scale_decides : Ok tt ≡ layout_fault sheet → {x : Finding} → x ≡ first_of scales → x ≡ sheet_fault sheet
   unfolding sheet_fault
   scale_decides right e = e ∙ left_over (layout_fault sheet ∷ []) scales (right ∙ sym (first_of_single (layout_fault sheet)))
+
+  pub threshold_off_lem : Ok tt ≡ layout_fault sheet → on_scale (threshold_of sheet) ≡ false → Err (OffScale 0 0) ≡ sheet_fault sheet
+  threshold_off_lem right h = scale_decides right (threshold_fault (size_of sheet) (scores_of sheet) (threshold_of sheet) h)
 
   -- what the reader would refuse for nothing but room: layout, threshold and scores are right
   pub sound : Ok tt ≡ sheet_fault sheet → Laid × (on_scale (threshold_of sheet) ≡ true) × (Ok tt ≡ scores_off (size_of sheet) (scores_of sheet))

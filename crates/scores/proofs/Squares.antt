@@ -4,7 +4,7 @@ use mathlib.Core.Path.{◌≡◌, refl, sym, ◌∙◌, ap}
 use mathlib.Core.Logic.{◌⊎◌, inl, inr}
 use mathlib.Core.List.{List, [], ◌∷◌, ◌++◌}
 use Prim.Native.Nat.{ℕ, zero, suc, ◌+◌, ◌*◌, ◌/◌, ◌%◌, ◌≤◌, ◌<◌}
-use native.Mathlib.Nat.{suc-mul, zero-mul, mul-le-mul_right, mod-lt, div-lt_iff_lt-mul}
+use native.Mathlib.Nat.{div-add-mod', suc-mul, zero-mul, mul-le-mul_right, mod-lt, div-lt_iff_lt-mul}
 use native.Mathlib.Omega.{arith}
 use lib.ListN.{length, get_or, set, length-append, get_or-append}
 use lib.Seq.{paste, get_or-append-add, get_or_at}
@@ -77,6 +77,11 @@ row_column n c h =
     some : (n c : ℕ) → c < n * n → 0 < n
     some zero c h = absurd (omega (arith, zero-mul 0))
     some (suc n) c h = omega arith
+
+square_entry : (n : ℕ) (f : ℕ → ℕ → ℕ) (c : ℕ) → c < n * n → get_or (square n f) c 0 ≡ f (c / n) (c % n)
+square_entry n f c h =
+    let at = row_column n c h in
+    ap (λ x. get_or (square n f) x 0) (sym (div-add-mod' c n)) ∙ square_at n f (c / n) (c % n) at.0 at.1
 
 -- a matrix written entry by entry, row by row: one more entry
 module _ (n : ℕ) (f : ℕ → ℕ → ℕ) (old : List ℕ) {now : List ℕ} (i j : ℕ) (so_far : now ≡ paste old 0 (square n f) (i * n + j)) where

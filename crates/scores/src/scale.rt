@@ -62,8 +62,10 @@ pub fn all_on_scale<F: Fn(usize) -> i16>(n: usize, t: i16, score: F) -> Result<(
         return Err(Refusal::OffScale { row: 0, column: 0 });
     }
     for i in 0..n {
+        // `spot_of` of i and j, with what is the same in the row taken once.
+        let before = earlier_of(n, i);
         for j in i + 1..n {
-            if !on_scale(score(spot_of(n, i, j))) {
+            if !on_scale(score(before + (j - i - 1))) {
                 return Err(Refusal::OffScale { row: i, column: j });
             }
         }

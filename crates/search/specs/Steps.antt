@@ -1,6 +1,6 @@
 -- The contracts of the procedure that calls itself at each node: it leaves the memory as it was, and it does what the tree's
 -- run under the step limit does, for every node that the memory stands for. Assumes nothing.
-use Rattle.std.specs.Prelude.{◌≡◌, Bool, List, map, ℕ, ◌*◌, ◌≤◌, ◌<◌, length, get_or, set}
+use Rattle.std.specs.Prelude.{◌≡◌, Bool, List, map, ℕ, ◌*◌, ◌≤◌, ◌<◌, length, get_or, take, set}
 use Rattle.std.proofs.Math.Option.{Option}
 use Rattle.bits.specs.Choice.{count}
 use Rattle.graph.specs.Price.{fixed}
@@ -118,3 +118,15 @@ WaysDone s m spent places t r m' =
 abbrev pub WayDone : Search → Room → ℕ → ℕ → Tally → Tally → Room → Type 0
 WayDone s m spent p t r m' =
     WayLeft s.n s.prune s.most m.words m.cost m.path m.kept spent p t r m'.words m'.cost m'.path m'.kept
+
+-- the same of lent parts, of which the path is the first `count` entries of its list
+pub record LentReady (n most : ℕ) (words cost path kept : List ℕ) (count spent : ℕ) (t : Tally) : Type 0 where
+  pub ready : Ready n most words cost (take count path) kept spent t
+  pub long : length path ≡ 8128
+  pub inside : count ≤ 8128
+
+abbrev pub LentLeft :
+    (n : ℕ) (prune : Bool) (most : ℕ) (words cost path kept : List ℕ) (count spent : ℕ) (t r : Tally)
+    (words' cost' path' kept' : List ℕ) → Type 0
+LentLeft n prune most words cost path kept count spent t r words' cost' path' kept' =
+    NodeLeft n prune most words cost (take count path) kept spent t r words' cost' (take count path') kept'

@@ -117,10 +117,12 @@ fn engine(
     };
     let mut room = Room {
         words: graph::rows::flat_of(rows),
-        cost: bound::prices::costs(n, prices),
+        cost: [graph::FIXED; 16384],
         path: Trail::over([0u16; 8128]),
         kept: [0u16; 8128],
     };
+    // Filled where it stands: a table handed back would stand in this frame a second time.
+    bound::prices::fill(n, prices, &mut room.cost);
     let start = Tally {
         steps: 0,
         limit: k,

@@ -1,9 +1,10 @@
 // The search tree, walked by a procedure that calls itself at each node.
-ghost use Rattle.std.specs.Prelude.{◌≡◌, ◌+◌, ◌≤◌, ◌<◌};
+ghost use Rattle.std.specs.Prelude.{◌≡◌, ◌+◌, ◌≤◌, ◌<◌, length};
 ghost use Rattle.memory.specs.Table.{Place};
-ghost use Rattle.search.specs.Steps.{IsReady, Six, NodeDone, WaysDone, WayDone};
+ghost use Rattle.search.specs.Steps.{IsReady, Six, NodeDone, WaysDone, WayDone, LentReady, LentLeft};
 
 use crate::room::Room;
+use memory::trail::Trail;
 use memory::{Tally, leaf, table};
 
 // What stays the same at every node: the number of vertices, whether the engine prunes, and the step limit. `prune` is a word
@@ -78,4 +79,44 @@ impl Search {
         leaf::leave(&mut room.words, &mut room.path, self.n, p, at);
         after
     }
+}
+
+// The N entries of a list.
+fn entries<T: Copy, const N: usize>(list: &[T]) -> [T; N]
+    requires { length list.now ≡ N }
+    ensures { result ≡ list.now }
+{
+    list.try_into().unwrap()
+}
+
+// `Search::node` over lent parts, as docs/PROMISES.md names it: the path is the first `count` entries of its list. A room is made
+// of what is lent, so this call is for callers that have the parts; the engine makes its room itself. All but `kept` is left as
+// it was.
+pub fn node(
+    words: &mut [u64],
+    cost: &mut [u16],
+    path: &mut [u16],
+    kept: &mut [u16],
+    n: usize,
+    prune: bool,
+    most: u64,
+    count: usize,
+    spent: u32,
+    t: Tally,
+) -> Tally
+    requires ready { LentReady n most words.old cost.old path.old kept.old count spent t }
+    requires steps_le_most { t.steps ≤ most }
+    ensures { LentLeft n prune most words.old cost.old path.old kept.old count spent t result
+        words.new cost.new path.new kept.new }
+{
+    let search = Search { n, prune, most };
+    let mut room = Room {
+        words: entries(words),
+        cost: entries(cost),
+        path: Trail::of(entries(path), count),
+        kept: entries(kept),
+    };
+    let after = search.node(&mut room, spent, t);
+    kept.copy_from_slice(&room.kept);
+    after
 }

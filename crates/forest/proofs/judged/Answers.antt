@@ -5,5 +5,5 @@ use Rattle.forest.proofs.judged.Goals as goal
 -- the words read as the bytes do
 pub returns-in-None : goal.returns-in-None
 returns-in-None c =
-    cleared _ _ _ (c.flat_of-words.ensures.edges ∙ c.rows_of-rows.ensures.edges) c.requires.3 c.requires.0 c.in-None.ensures
+    cleared _ _ _ (c.flat_of.ensures.edges ∙ c.rows_of-rows.ensures.edges) c.requires.3 c.requires.0 c.in-None.ensures
     c.planted.ensures.0 c.planted.ensures.1

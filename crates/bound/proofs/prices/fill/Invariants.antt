@@ -1,7 +1,7 @@
--- `bound::prices::costs` meets its contract. The loop over the rows: the table is filled up to row i. Assumes nothing.
+-- `bound::prices::fill` meets its contract. The loop over the rows: the table is filled up to row i. Assumes nothing.
 use Prim.Native.Nat.{◌*◌}
 use Rattle.bound.specs.Costs.{Filled}
-use Rattle.bound.proofs.prices.costs.Given as goal
+use Rattle.bound.proofs.prices.fill.Given as goal
 
 abbrev pub invariant-loop-i : goal.invariant-loop-i
 invariant-loop-i l =
