@@ -26,6 +26,7 @@ struct Walk<'a> {
 
 // The bound of a graph and prices that passed their checks.
 // The three stay parameters, as `bound` is lent them and `rows_of` and `costs` take them.
+#[inline(never)] // so that its table stands in no caller's frame
 fn packing_of(n: usize, g: &[u8], prices: &[u16]) -> u32
     requires n_bound { (n ≤ 128) × (length g.now ≡ n * n) × (length prices.now ≡ n * n) }
     requires g_value { (entries n g.now ≡ Ok tt) × (price_entries n prices.now ≡ Ok tt) }

@@ -49,11 +49,12 @@ fn judged(n: usize, g: &[u8], out: &mut [u16]) -> Answer
     ensures { Meant n g.now out.old (Ok result) out.new }
 {
     let rows = graph::rows::rows_of(n, g);
-    // Made here and not where it is planted: the words would stand in this frame a second time.
-    let graph = Graph {
-        words: graph::rows::flat_of(rows),
+    // Filled where they stand: words handed on would stand in this frame a second time.
+    let mut graph = Graph {
+        words: [0u64; 256],
         n,
     };
+    graph::rows::lay_flat(&rows, &mut graph.words);
     match graph::seek::first_quad(&graph.words, n) {
         Some(quad) => Answer::Spoiled(quad),
         None => Answer::Forest {

@@ -52,6 +52,10 @@ module _ (rows : List (List ℕ)) where
       zeros p (inl h) = rw (get_or-replicate {A = ℕ} 256 p 0 0 h) (omega arith)
       zeros p (inr h) = rw (get_or-eq_default {A = ℕ} (replicate 256 0) 0 h) (omega arith)
 
+  -- nothing of any words
+  pub copied_start : {words : List ℕ} → AreWords words → Copied rows 0 words
+  copied_start shape = record { shape = shape; word = λ a k h. absurd (omega arith) }
+
   -- the two words of row i are stored
   pub copied_next :
       (i : ℕ) (words : List ℕ) {low high : ℕ} → i < 128 → low < 2 ^ 64 → high < 2 ^ 64 → low ≡ get_or (get_or rows i []) 0 0 →

@@ -4,7 +4,7 @@ ghost use Rattle.std.specs.Prelude.{◌≡◌, ◌≢◌, false, ℕ, ◌+◌, �
 ghost use Rattle.bits.specs.Bit.{bit};
 ghost use Rattle.bits.specs.Choice.{pick};
 ghost use Rattle.graph.specs.Graph.{edge, word_edge};
-ghost use Rattle.graph.specs.Rows.{IsRow, Rowed, Flat, OneWay, Toggled};
+ghost use Rattle.graph.specs.Rows.{AreWords, IsRow, Rowed, Flat, OneWay, Toggled};
 
 // Is there an edge from vertex i to j, which may be no vertex?
 // n and the bytes stay two parameters, here and below: docs/PROMISES.md names `rows_of`, which is lent them so.
@@ -73,11 +73,19 @@ pub fn flat_of(rows: [[u64; 2]; 128]) -> [u64; 256]
     ensures { Flat rows result }
 {
     let mut words = [0u64; 256];
+    lay_flat(&rows, &mut words);
+    words
+}
+
+// The same where they stand: `search::engine` has its room's words so, as words handed back would stand in its frame beside the room.
+pub fn lay_flat(rows: &[[u64; 2]; 128], words: &mut [u64; 256])
+    requires { AreWords words.old }
+    ensures { Flat rows.now words.new }
+{
     for (i, [low, high]) in rows.iter().enumerate() {
         words[2 * i] = *low;
         words[2 * i + 1] = *high;
     }
-    words
 }
 
 // Are x and y adjacent? The words are a slice, here and below: docs/PROMISES.md names `adjacent` and `toggle`, and a

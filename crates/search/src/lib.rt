@@ -116,12 +116,13 @@ fn engine(
         most: most as u64,
     };
     let mut room = Room {
-        words: graph::rows::flat_of(rows),
+        words: [0u64; 256],
         cost: [graph::FIXED; 16384],
         path: Trail::over([0u16; 8128]),
         kept: [0u16; 8128],
     };
-    // Filled where it stands: a table handed back would stand in this frame a second time.
+    // Filled where they stand: words and a table handed back would stand in this frame a second time.
+    graph::rows::lay_flat(&rows, &mut room.words);
     bound::prices::fill(n, prices, &mut room.cost);
     let start = Tally {
         steps: 0,

