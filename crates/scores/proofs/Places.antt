@@ -76,10 +76,9 @@ module _ (n i j : ℕ) (in-i : i < n) (in-j : j < n) (apart : i ≢ j) where
     where
       go : (i < j) ⊎ (j ≤ i) → (e + abs_diff i j - 1 ≡ spot n i j) × (spot n i j < half n)
       go (inl p) =
-          let at : spot n i j ≡ earlier n i + (j - suc i) = pick_true (place n i j) (place n j i) (lt-ltb i j p) in
           let low : a ≡ i = omega arith in
-          let first : earlier n a ≡ earlier n i = ap (earlier n) low in
-          (omega arith, rw at (place_below n p in-j))
+          let at = spot_after n i j p in-j (before ∙ ap (earlier n) low) in
+          (omega (arith, at.0), at.1)
       go (inr p) =
           let at : spot n i j ≡ earlier n j + (i - suc j) = pick_false (place n i j) (place n j i) (le-ltb i j p) in
           let low : a ≡ j = omega arith in
